@@ -1,0 +1,9 @@
+pub mod Entries
+pub mod EverySize
+pub mod Grounds
+pub mod Growing
+pub mod InSheet
+pub mod InTable
+pub mod Marking
+pub mod Sizable
+pub mod Unique

@@ -1,0 +1,7 @@
+pub mod Descents
+pub mod Entries
+pub mod Growth
+pub mod Marks
+pub mod Records
+pub mod Sizes
+pub mod Verdicts

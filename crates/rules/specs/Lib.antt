@@ -1,0 +1,10 @@
+pub mod Cuts
+pub mod Descents
+pub mod Exactly
+pub mod Listing
+pub mod Passing
+pub mod Places
+pub mod Promise
+pub mod Rules
+pub mod Slots
+pub mod Terms

@@ -1,0 +1,10 @@
+// A model sheet: its words read record by record.
+mod chains;
+mod reader;
+mod step;
+
+pub use chains::Survey;
+pub use reader::Reader;
+pub use reader::Record;
+pub use step::Below;
+pub use step::Step;

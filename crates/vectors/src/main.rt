@@ -1,0 +1,20 @@
+// Prints, for each sheet named as an argument, its name and what is printed of the sheet.
+use report::judgement;
+use std::env;
+use std::error::AnyError;
+use std::fs;
+
+fn show(rt: &LibcRuntime, name: &str) -> Result<(), AnyError> {
+    let bytes = fs::read(rt, name)?;
+    let text = judgement(rt.alloc(), &bytes)?;
+    rt.println(name)?;
+    rt.print(text.as_str())?;
+    Ok(())
+}
+
+fn main(rt: LibcRuntime) -> Result<(), AnyError> {
+    for name in env::args(&rt)?.skip(1) {
+        show(&rt, name.as_str())?;
+    }
+    Ok(())
+}

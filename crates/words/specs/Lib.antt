@@ -1,0 +1,4 @@
+pub mod Checks
+pub mod Edges
+pub mod Refusals
+pub mod Words
