@@ -81,11 +81,11 @@ module _ (down : ℕ → Below) (t : List ℕ) where
     one-entry r a e = entry-sized (one e (sized-entry a (below-behaviour r a (subst (λ y. To y a) (sym e) refl))) refl)
 
     pub two-entry : (r a b : ℕ) → down r ≡ Two a b
-      → (depthOf (getD t r 0) ≡ 1 + max (depthOf (getD t a 0)) (depthOf (getD t b 0))) × (spanOf (getD t r 0) ≡ spanOf (getD t a 0) + spanOf (getD t b 0))
+        → (depthOf (getD t r 0) ≡ 1 + max (depthOf (getD t a 0)) (depthOf (getD t b 0))) × (spanOf (getD t r 0) ≡ spanOf (getD t a 0) + spanOf (getD t b 0))
     two-entry r a b e =
         entry-sized
         (two e (sized-entry a (below-behaviour r a (subst (λ y. To y a) (sym e) (inl refl))))
-          (sized-entry b (below-behaviour r b (subst (λ y. To y b) (sym e) (inr refl)))) refl refl)
+        (sized-entry b (below-behaviour r b (subst (λ y. To y b) (sym e) (inr refl)))) refl refl)
 
     -- a filled table follows from word to word
     pub filled-consistent : Consistent down t
@@ -96,8 +96,10 @@ module _ (down : ℕ → Below) (t : List ℕ) where
         at r Leaf e = let h = leaf-entry r e in rw e (omega (arith, h .0, h .1))
         at r (One a) e = let h = one-entry r a e in rw e (omega (arith, h .0, h .1))
         at r (Two a b) e = let h = two-entry r a b e in rw e (omega (arith, h .0, h .1))
+
         below-known : (r a : ℕ) → To (down r) a → 0 < getD t a 0
         below-known r a to = let h = depth-within a (below-behaviour r a to) in omega (arith, h .0)
+
         limit : (r : ℕ) (x : Below) → down r ≡ x → (depthOf (getD t r 0) ≤ maxDepth) × (spanOf (getD t r 0) ≤ maxSpan)
         limit r Absent e = let z = filled .others r e in (omega arith, omega arith)
         limit r Leaf e = let is : Behaviour (down r) = subst Behaviour (sym e) tt in (depth-within r is .1, span-within r is .1)
@@ -120,8 +122,8 @@ module _ (down : ℕ → Below) (t : List ℕ) where
     by-depth (suc k) r h is = go (down r) refl (λ a lt known. by-depth k a (omega arith) (known-behaviour a known))
       where
         go : (x : Below) → down r ≡ x
-          → ((a : ℕ) → depthOf (getD t a 0) < depthOf (getD t r 0) → 0 < getD t a 0 → Sized down a (depthOf (getD t a 0)) (spanOf (getD t a 0)))
-          → Sized down r (depthOf (getD t r 0)) (spanOf (getD t r 0))
+            → ((a : ℕ) → depthOf (getD t a 0) < depthOf (getD t r 0) → 0 < getD t a 0 → Sized down a (depthOf (getD t a 0)) (spanOf (getD t a 0)))
+            → Sized down r (depthOf (getD t r 0)) (spanOf (getD t r 0))
         go Absent e lower = absurd (subst Behaviour e is)
         go Leaf e lower = let w = consistent .entry r ∙ ap (λ y. entryOver y t) e in leaf e (omega arith) (omega arith)
         go (One a) e lower =
@@ -137,14 +139,14 @@ module _ (down : ℕ → Below) (t : List ℕ) where
             (lower b (omega arith) (consistent .below r b (subst (λ y. To y b) (sym e) (inr refl)))) (omega arith) (omega arith)
 
     pub consistent-filled : Filled down t
-    consistent-filled = record
-      { behaviours = λ r is. record
-          { depth = depthOf (getD t r 0)
-          ; span = spanOf (getD t r 0)
-          ; sized = by-depth (suc (depthOf (getD t r 0))) r (omega arith) is
-          ; shallow = consistent .shallow r
-          ; narrow = consistent .narrow r
-          ; is = omega arith
-          }
-      ; others = λ r e. consistent .entry r ∙ ap (λ y. entryOver y t) e
-      }
+    consistent-filled = record {
+      behaviours = λ r is. record {
+        depth = depthOf (getD t r 0);
+        span = spanOf (getD t r 0);
+        sized = by-depth (suc (depthOf (getD t r 0))) r (omega arith) is;
+        shallow = consistent .shallow r;
+        narrow = consistent .narrow r;
+        is = omega arith;
+      };
+      others = λ r e. consistent .entry r ∙ ap (λ y. entryOver y t) e;
+    }

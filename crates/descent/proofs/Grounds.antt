@@ -28,10 +28,10 @@ use Rattle.descent.proofs.InSheet.{down-inside, down-outside, called-inside, c
 
 -- what holds of every kind's step holds of a record's
 by-kind : (P : Step → Type 0) (k : ℕ) (x : Record)
-  → (k ≡ 0 → P Stop) → (k ≡ 1 → P (Act (x .one) (x .two))) → (k ≡ 4 → P Break) → (k ≡ 5 → P (Throw (x .one)))
-  → (k ≡ 6 → P (Alt (x .one) (x .two))) → (k ≡ 7 → P (Seq (x .one) (x .two))) → (k ≡ 8 → P (Loop (x .one)))
-  → (k ≡ 9 → P (Try (x .one) (x .two))) → (k ≡ 11 → P (When (x .one) (x .two))) → (k ≡ 12 → P (Urgent (x .one) (x .two)))
-  → (k ≡ 13 → P (Call (payloadOf (x .head)))) → (behaviourKind k ≡ false → P Link) → P (ofKind k x)
+    → (k ≡ 0 → P Stop) → (k ≡ 1 → P (Act (x .one) (x .two))) → (k ≡ 4 → P Break) → (k ≡ 5 → P (Throw (x .one)))
+    → (k ≡ 6 → P (Alt (x .one) (x .two))) → (k ≡ 7 → P (Seq (x .one) (x .two))) → (k ≡ 8 → P (Loop (x .one)))
+    → (k ≡ 9 → P (Try (x .one) (x .two))) → (k ≡ 11 → P (When (x .one) (x .two))) → (k ≡ 12 → P (Urgent (x .one) (x .two)))
+    → (k ≡ 13 → P (Call (payloadOf (x .head)))) → (behaviourKind k ≡ false → P Link) → P (ofKind k x)
 by-kind P k x stop act leave throw alt seq loop try when urgent call link =
     cond-both (eqb k 0) _ _ P (λ e. stop (eqb-true k 0 e)) (λ n0.
     cond-both (eqb k 1) _ _ P (λ e. act (eqb-true k 1 e)) (λ n1.
@@ -108,13 +108,14 @@ module _ (ws : List ℕ) (words-right : recordCheck ws (Ok tt)) where
         (λ e c. absurd (other c)) (λ e c. absurd (other c)) (λ e c. absurd (other c)) (λ e c. absurd (other c)) (λ e c. absurd (other c))
         (λ e c. absurd (other c)) (λ e c. absurd (other c)) (λ e c. absurd (other c)) (λ e c. absurd (other c)) (λ e c. absurd (other c))
         (λ e c.
-          let same : payloadOf (x .head) ≡ q = cc in
-          (omega (arith, ltb-true (payloadOf (x .head)) (processes ws) (admitted 13 0 (omega arith) e)), ap (λ k. One (body ws k)) same))
+        let same : payloadOf (x .head) ≡ q = cc in
+        (omega (arith, ltb-true (payloadOf (x .head)) (processes ws) (admitted 13 0 (omega arith) e)), ap (λ k. One (body ws k)) same))
         (λ e c. absurd (other c))
         some
       where
         x : Record
         x = recordAt ws r
+
         other : _≡_ {A = Option ℕ} None (Some q) → ⊥
         other c = let z : _≡_ {A = ℕ} 0 1 = cc in omega arith
 
@@ -125,19 +126,22 @@ module _ (ws : List ℕ) (words-right : recordCheck ws (Ok tt)) where
     where
       n : ℕ
       n = records ws
+
       bodies : (q : ℕ) → q < processes ws → Behaviour (downIn ws n (body ws q))
       bodies q h = ⊎-elim
           (λ e.
-            let p = and-parts (eqb (kindOf (getD ws (3 + q) 0)) 4) _ e in
-            let s = and-parts (ltb (body ws q) n) _ (p .1) in
-            record-behaviour ws n (body ws q) (ltb-true (body ws q) n (s .0)) (s .1))
+          let p = and-parts (eqb (kindOf (getD ws (3 + q) 0)) 4) _ e in
+          let s = and-parts (ltb (body ws q) n) _ (p .1) in
+          record-behaviour ws n (body ws q) (ltb-true (body ws q) n (s .0)) (s .1))
           (λ e. absurd (right q h e))
           (cases-bool (processRight ws q))
+
       calls : (r q : ℕ) → calledIn ws n r ≡ Some q → (q < processes ws) × (downIn ws n r ≡ One (body ws q))
       calls r q e =
           let h = call-inside ws n r q e in
           let s = step-call r h q (sym (called-inside ws n r h) ∙ e) in
           (s .0, down-inside ws n r h ∙ s .1)
+
       falls : (r t : ℕ) → calledIn ws n r ≡ None → To (downIn ws n r) t → (t < r) × Behaviour (downIn ws n t)
       falls r t none to =
           let h : r < n = ⊎-elim (λ l. l) (λ g. absurd (subst (λ y. To y t) (down-outside ws n r g) to)) (cases-lt r n) in
@@ -146,7 +150,7 @@ module _ (ws : List ℕ) (words-right : recordCheck ws (Ok tt)) where
 
 -- whatever stands below is a behaviour
 pub grounded-below : (down : ℕ → Below) (called : ℕ → Option ℕ) (body-of : ℕ → ℕ) (p : ℕ) → Grounded down called body-of p
-  → (r a : ℕ) → To (down r) a → Behaviour (down a)
+    → (r a : ℕ) → To (down r) a → Behaviour (down a)
 grounded-below down called body-of p ground r a to = go (called r) refl
   where
     go : (o : Option ℕ) → called r ≡ o → Behaviour (down a)

@@ -69,12 +69,12 @@ module _ (down : ℕ → Below) (t : List ℕ) (true-words : True down t) where
           let is-u = parts u (g .depth) (g .span) (g .is) in
           let is-v = parts v (k .depth) (k .span) (k .is) in
           let f = from-shallow (1 + max (depthOf u) (depthOf v)) (spanOf u + spanOf v) w (p .2) h in
-          record
-          { depth = 1 + max (g .depth) (k .depth)
-          ; span = g .span + k .span
-          ; sized = two q (g .sized) (k .sized) refl refl
-          ; shallow = omega arith
-          ; is = omega arith
+          record {
+            depth = 1 + max (g .depth) (k .depth);
+            span = g .span + k .span;
+            sized = two q (g .sized) (k .sized) refl refl;
+            shallow = omega arith;
+            is = omega arith;
           }
 
   depth-is : (r d s : ℕ) → Sized down r d s → 0 < getD t r 0 → depthOf (getD t r 0) ≡ d
@@ -108,8 +108,8 @@ module _ (down : ℕ → Below) (t : List ℕ) (true-words : True down t) where
         let is-b = depth-is b d′ s′ y known-b in
         given r (subst Behaviour (sym e) tt)
         (subst (λ z. 0 < wordOver z t) (sym e)
-          (subst (λ k. 0 < k) (sym (two-known u v known-a known-b))
-            (from-positive (1 + max (depthOf u) (depthOf v)) (spanOf u + spanOf v) (omega arith) (omega arith))))
+        (subst (λ k. 0 < k) (sym (two-known u v known-a known-b))
+        (from-positive (1 + max (depthOf u) (depthOf v)) (spanOf u + spanOf v) (omega arith) (omega arith))))
 
     -- a behaviour without a word is too deep, one with a word is not
     pub unknown-deep : (r : ℕ) → Behaviour (down r) → getD t r 0 ≡ 0 → Deep down r
@@ -126,15 +126,16 @@ module _ (down : ℕ → Below) (t : List ℕ) (true-words : True down t) where
 
     -- and where nothing is too wide either, the word is exact
     pub all-filled : Clear (Deep down) n → Clear (Wide down) n → Filled down t
-    all-filled shallow narrow = record
-      { behaviours = λ r is. exact r is (true-words r (all-known shallow r is))
-      ; others = λ r e. ⊎-elim (λ z. z) (λ ne. absurd (none r e (let away : getD t r 0 ≡ 0 → ⊥ = ne in omega arith))) (cases-eq (getD t r 0) 0)
-      }
+    all-filled shallow narrow = record {
+      behaviours = λ r is. exact r is (true-words r (all-known shallow r is));
+      others = λ r e. ⊎-elim (λ z. z) (λ ne. absurd (none r e (let away : getD t r 0 ≡ 0 → ⊥ = ne in omega arith))) (cases-eq (getD t r 0) 0);
+    }
       where
         exact : (r : ℕ) → Behaviour (down r) → Gives down r (getD t r 0) → Holds down r (getD t r 0)
         exact r is g =
             let limit : g .span ≤ maxSpan = ⊎-elim (λ l. absurd (narrow r (inside r is) (is, λ d s x. let e = sized-same down (g .sized) x in omega (arith, e .1)))) (λ k. k) (cases-lt maxSpan (g .span)) in
             record { depth = g .depth; span = g .span; sized = g .sized; shallow = g .shallow; narrow = limit; is = omega (arith, g .is) }
+
         none : (r : ℕ) → down r ≡ Absent → 0 < getD t r 0 → ⊥
         none r e h = subst Behaviour e (sized-behaviour down (true-words r h .sized))
 
@@ -170,19 +171,19 @@ module _ (down : ℕ → Below) where
   set-true t i w h e k known r m =
       ⊎-elim
       (λ q. let v : getD (set t i w) r 0 ≡ w = ap (λ j. getD (set t i w) j 0) q ∙ getD-set-same t i w 0 h in
-        subst (λ x. Gives down r x) (sym v) (subst (λ j. Gives down j w) (sym q) (over-true down t known i w e k)))
+      subst (λ x. Gives down r x) (sym v) (subst (λ j. Gives down j w) (sym q) (over-true down t known i w e k)))
       (λ ne. let v : getD (set t i w) r 0 ≡ getD t r 0 = getD-set-other t i r w 0 ne in
-        subst (λ x. Gives down r x) (sym v) (known r (subst (λ x. 0 < x) v m)))
+      subst (λ x. Gives down r x) (sym v) (known r (subst (λ x. 0 < x) v m)))
       (cases-eq r i)
 
   pub grown-more : (i : ℕ) (before t : List ℕ) (changed : Bool) (w : ℕ) → Grown down i before t changed → i < length t → getD t i 0 ≡ 0
-    → w ≡ wordOver (down i) t → 0 < w → Grown down (i + 1) before (set t i w) true
+      → w ≡ wordOver (down i) t → 0 < w → Grown down (i + 1) before (set t i w) true
   grown-more i before t changed w g h z e k =
-      record
-      { sound = λ known. set-true t i w h e k (g .sound known)
-      ; fewer = λ q. earlier changed (g .fewer) (g .same)
-      ; same = λ q. absurd (both-ways true q refl)
-      ; settled = λ q. absurd (both-ways true q refl)
+      record {
+        sound = λ known. set-true t i w h e k (g .sound known);
+        fewer = λ q. earlier changed (g .fewer) (g .same);
+        same = λ q. absurd (both-ways true q refl);
+        settled = λ q. absurd (both-ways true q refl);
       }
     where
       earlier : (x : Bool) → (x ≡ true → unsized t < unsized before) → (x ≡ false → t ≡ before) → unsized (set t i w) < unsized before
@@ -191,11 +192,11 @@ module _ (down : ℕ → Below) where
 
   pub grown-same : (i : ℕ) (before t : List ℕ) (changed : Bool) → Grown down i before t changed → (getD t i 0 ≡ 0 → wordOver (down i) t ≡ 0) → Grown down (i + 1) before t changed
   grown-same i before t changed g here =
-      record
-      { sound = g .sound
-      ; fewer = g .fewer
-      ; same = g .same
-      ; settled = λ q r h z. ⊎-elim (λ e. subst (λ j. wordOver (down j) t ≡ 0) (sym e) (here (ap (λ j. getD t j 0) (sym e) ∙ z))) (λ ne. g .settled q r (let away : r ≡ i → ⊥ = ne in omega arith) z) (cases-eq r i)
+      record {
+        sound = g .sound;
+        fewer = g .fewer;
+        same = g .same;
+        settled = λ q r h z. ⊎-elim (λ e. subst (λ j. wordOver (down j) t ≡ 0) (sym e) (here (ap (λ j. getD t j 0) (sym e) ∙ z))) (λ ne. g .settled q r (let away : r ≡ i → ⊥ = ne in omega arith) z) (cases-eq r i);
       }
 
   -- nothing is known in a blank table

@@ -50,19 +50,21 @@ module _ (ws t : List ℕ) (n : ℕ) where
   entry-positive (Two a b) is = omega arith
 
   pub entered-filled : length t ≡ n → ((r a : ℕ) → To (downIn ws n r) a → Behaviour (downIn ws n a)) → Entered → Limited → Filled (downIn ws n) t
-  entered-filled long below entered limited = consistent-filled (downIn ws n) t (record
-      { entry = entry
-      ; below = λ r a to. subst (λ w. 0 < w) (sym (entry a)) (entry-positive (downIn ws n a) (below r a to))
-      ; shallow = λ r. limit r .0
-      ; narrow = λ r. limit r .1
-      })
+  entered-filled long below entered limited = consistent-filled (downIn ws n) t (record {
+    entry = entry;
+    below = λ r a to. subst (λ w. 0 < w) (sym (entry a)) (entry-positive (downIn ws n a) (below r a to));
+    shallow = λ r. limit r .0;
+    narrow = λ r. limit r .1;
+  })
     where
       past : (r : ℕ) → n ≤ r → getD t r 0 ≡ 0
       past r h = getD-past t r 0 (omega arith)
+
       entry : (r : ℕ) → getD t r 0 ≡ entryOver (downIn ws n r) t
       entry r = ⊎-elim
           (λ h. entered r h ∙ ap (λ x. entryOver x t) (sym (down-inside ws n r h)))
           (λ h. past r h ∙ ap (λ x. entryOver x t) (sym (down-outside ws n r h)))
           (cases-lt r n)
+
       limit : (r : ℕ) → (depthOf (getD t r 0) ≤ maxDepth) × (spanOf (getD t r 0) ≤ maxSpan)
       limit r = ⊎-elim (λ h. limited r h) (λ h. let z = past r h in (omega arith, omega arith)) (cases-lt r n)

@@ -88,8 +88,8 @@ module _ (down : ℕ → Below) where
       let zeros : List ℕ = replicate n 0 in
       ⊎-elim
       (λ e. let i = new-inside zeros b e in
-        ⊎-elim (λ q. subst (λ k. Reaches down b k) (sym q) here) (λ m′. absurd (blank-unmarked n r m′))
-          (set-marks zeros b r (i .0) (subst (λ u. Marked u r) (marking-new zeros b e) m)))
+      ⊎-elim (λ q. subst (λ k. Reaches down b k) (sym q) here) (λ m′. absurd (blank-unmarked n r m′))
+      (set-marks zeros b r (i .0) (subst (λ u. Marked u r) (marking-new zeros b e) m)))
       (λ e. absurd (blank-unmarked n r (subst (λ u. Marked u r) (marking-old zeros b e) m)))
       (cases-bool (isNew zeros b))
 
@@ -103,12 +103,12 @@ module _ (down : ℕ → Below) where
       go true e =
           let i = new-inside t a e in
           subst (λ u. Spread down t u true) (sym (marking-new t a e))
-          (record
-            { kept = λ r n. set-keeps t a r (i .0) n
-            ; sound = λ b sd r n. ⊎-elim (λ q. subst (λ k. Reaches down b k) (sym q) (deeper (sd s m) to)) (λ n′. sd r n′) (set-marks t a r (i .0) n)
-            ; fewer = λ q. set-fewer t a (i .0) (i .1)
-            ; same = λ q. absurd (both-ways true q refl)
-            })
+          (record {
+            kept = λ r n. set-keeps t a r (i .0) n;
+            sound = λ b sd r n. ⊎-elim (λ q. subst (λ k. Reaches down b k) (sym q) (deeper (sd s m) to)) (λ n′. sd r n′) (set-marks t a r (i .0) n);
+            fewer = λ q. set-fewer t a (i .0) (i .1);
+            same = λ q. absurd (both-ways true q refl);
+          })
       go false e = subst (λ u. Spread down t u false) (sym (marking-old t a e)) (spread-none t)
 
   pub spread-then : {t u v : List ℕ} {x y : Bool} → Spread down t u x → Spread down u v y → Spread down t v (x || y)
@@ -139,9 +139,9 @@ module _ (down : ℕ → Below) where
   closed-below t s (Two a b) e n m r to h =
       let parts = or-parts (isNew t a) (isNew (marking t a) b) n in
       ⊎-elim
-        (λ q. not-new t r h (ap (λ k. isNew t k) q ∙ parts .0))
-        (λ q. not-new t r h (ap (λ k. isNew t k) q ∙ subst (λ u. isNew u b ≡ false) (marking-old t a (parts .0)) (parts .1)))
-        (subst (λ y. To y r) e to)
+      (λ q. not-new t r h (ap (λ k. isNew t k) q ∙ parts .0))
+      (λ q. not-new t r h (ap (λ k. isNew t k) q ∙ subst (λ u. isNew u b ≡ false) (marking-old t a (parts .0)) (parts .1)))
+      (subst (λ y. To y r) e to)
 
   -- what a sweep from n down to i has done
   abbrev pub Swept : ℕ → ℕ → List ℕ → List ℕ → Bool → Type 0
@@ -161,8 +161,8 @@ module _ (down : ℕ → Below) where
 
   -- a table that is closed has the marks of all that its root reaches
   pub reached-complete : (n b : ℕ) (t : List ℕ) → n ≤ length t → ((r : ℕ) → n ≤ r → down r ≡ Absent)
-    → (b < length t → Marked t b) → ((r : ℕ) → r < n → Closed down t r)
-    → {r : ℕ} → Reaches down b r → r < n → Marked t r
+      → (b < length t → Marked t b) → ((r : ℕ) → r < n → Closed down t r)
+      → {r : ℕ} → Reaches down b r → r < n → Marked t r
   reached-complete n b t room absent root closed here h = root (omega arith)
   reached-complete n b t room absent root closed {r = r} (deeper {s = s} reach to) h =
       let inside : s < n = ⊎-elim (λ l. l) (λ g. absurd (subst (λ y. To y r) (absent s g) to)) (cases-lt s n) in

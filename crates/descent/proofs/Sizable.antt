@@ -22,7 +22,7 @@ In q (x ∷ xs) = (q ≡ x) ⊎ In q xs
 
 -- taking one process out of the list keeps the others
 without : (q : ℕ) (xs : List ℕ) → In q xs
-  → (ys : List ℕ) × (length xs ≡ suc (length ys)) × ((k : ℕ) → In k xs → (k ≡ q) ⊎ In k ys)
+    → (ys : List ℕ) × (length xs ≡ suc (length ys)) × ((k : ℕ) → In k xs → (k ≡ q) ⊎ In k ys)
 without q [] h = absurd h
 without q (x ∷ xs) (inl e) = (xs, refl, λ k i. ⊎-elim (λ f. inl (f ∙ sym e)) (λ j. inr j) i)
 without q (x ∷ xs) (inr i) =
@@ -51,9 +51,9 @@ module _ (down : ℕ → Below) (called : ℕ → Option ℕ) (body : ℕ → �
 
   module _ (grounded : Grounded down called body p) (clear : Clear (DescendsToItself down called body) p) where
     step : (left : List ℕ)
-      → ((rest : List ℕ) (q : ℕ) → length left ≡ suc (length rest) → q < p → Way rest (body q) → HasSize (body q))
-      → (r : ℕ) → ((t : ℕ) → t < r → Way left t → Behaviour (down t) → HasSize t)
-      → Way left r → Behaviour (down r) → HasSize r
+        → ((rest : List ℕ) (q : ℕ) → length left ≡ suc (length rest) → q < p → Way rest (body q) → HasSize (body q))
+        → (r : ℕ) → ((t : ℕ) → t < r → Way left t → Behaviour (down t) → HasSize t)
+        → Way left r → Behaviour (down r) → HasSize r
     step left callee r lower way is = go (called r) refl
       where
         at-call : (q : ℕ) → called r ≡ Some q → HasSize r
@@ -61,19 +61,22 @@ module _ (down : ℕ → Below) (called : ℕ → Option ℕ) (body : ℕ → �
           where
             g : (q < p) × (down r ≡ One (body q))
             g = grounded .calls r q e
+
             to : To (down r) (body q)
             to = subst (λ x. To x (body q)) (sym (g .1)) refl
+
             inside : In q left → HasSize r
             inside i =
                 let w = without q left i in
                 let rest-way : Way (w .0) (body q) = λ k h.
-                  ⊎-elim
-                    (λ j. ⊎-elim (λ e′. inr (subst (λ x. Reaches down (body x) (body q)) (sym e′) here)) (λ l. inl l) (w .2 k j))
-                    (λ reach. inr (deeper reach to))
-                    (way k h)
+                ⊎-elim
+                (λ j. ⊎-elim (λ e′. inr (subst (λ x. Reaches down (body x) (body q)) (sym e′) here)) (λ l. inl l) (w .2 k j))
+                (λ reach. inr (deeper reach to))
+                (way k h)
                 in
                 let z = callee (w .0) q (w .1) (g .0) rest-way in
                 (1 + z .0, z .1, one (g .1) (z .2) refl)
+
         at-other : (x : Below) → down r ≡ x → called r ≡ None → HasSize r
         at-other Absent e n = absurd (subst Behaviour e is)
         at-other Leaf e n = (1, 1, leaf e refl refl)
@@ -90,14 +93,15 @@ module _ (down : ℕ → Below) (called : ℕ → Option ℕ) (body : ℕ → �
             let y = lower a (g .0) (way-down left r a way to-a) (g .1) in
             let z = lower b (h .0) (way-down left r b way to-b) (h .1) in
             (1 + max (y .0) (z .0), y .1 + z .1, two e (y .2) (z .2) refl refl)
+
         go : (o : Option ℕ) → called r ≡ o → HasSize r
         go (Some q) e = at-call q e
         go None e = at-other (down r) refl e
 
     -- all records below m, by going up
     from-lower : (left : List ℕ)
-      → ((rest : List ℕ) (q : ℕ) → length left ≡ suc (length rest) → q < p → Way rest (body q) → HasSize (body q))
-      → (m r : ℕ) → r < m → Way left r → Behaviour (down r) → HasSize r
+        → ((rest : List ℕ) (q : ℕ) → length left ≡ suc (length rest) → q < p → Way rest (body q) → HasSize (body q))
+        → (m r : ℕ) → r < m → Way left r → Behaviour (down r) → HasSize r
     from-lower left callee zero r h way is = absurd (omega arith)
     from-lower left callee (suc m) r h way is = step left callee r (λ t lt. from-lower left callee m t (omega arith)) way is
 

@@ -106,7 +106,11 @@ fn descends_to_itself(reader: &Reader<'_>, count: u32, process: u32, table: &mut
 }
 
 /// The lowest process that descends to itself.
-pub(crate) fn check_recursion(reader: &Reader<'_>, count: u32, table: &mut [u32]) -> Result<(), Fault>
+pub(crate) fn check_recursion(
+    reader: &Reader<'_>,
+    count: u32,
+    table: &mut [u32],
+) -> Result<(), Fault>
     requires { ⌜ count ≤ length (now table) ⌝ }
     ensures { λ r. ⌜ recursionCheck (now (now (reader .entry) .words)) count r ⌝ }
 {

@@ -89,7 +89,11 @@ pub(crate) fn check_spans(reader: &Reader<'_>, count: u32, table: &[u32]) -> Res
     ensures { λ r. ⌜ spanCheck (now (now (reader .entry) .words)) count r ⌝ }
 {
     for number in 0..count {
-        expect(span(table[number as usize]) <= MAX_SPAN, Refusal::Span, number as usize)?;
+        expect(
+            span(table[number as usize]) <= MAX_SPAN,
+            Refusal::Span,
+            number as usize,
+        )?;
     }
     Ok(())
 }

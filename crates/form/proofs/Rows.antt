@@ -34,8 +34,8 @@ module _ (wrong : ℕ → ℕ → Type 0) where
       → Lowest (λ k. wrong (k / 4) (k % 4)) (4 * n) (4 * r + j)
   rows-found r n j h below low =
       let few : j < 4 = low .inside in
-      record
-      { inside = omega arith
-      ; is = at-word r j few (low .is)
-      ; before = λ k k< w. before-word r j k (omega arith) k< below (low .before) w
+      record {
+        inside = omega arith;
+        is = at-word r j few (low .is);
+        before = λ k k< w. before-word r j k (omega arith) k< below (low .before) w;
       }

@@ -10,6 +10,7 @@ use words::expect;
 use words::kind;
 
 const MOST_ASSIGNMENTS: usize = 64;
+
 const MOST_TOTAL: u64 = 65_535;
 
 /// Whether, of the chain after a record of a kind, a record has the same key.
@@ -46,7 +47,10 @@ pub(crate) fn check_repeats(reader: &Reader<'_>) -> Result<(), Fault>
 fn overlong(reader: &Reader<'_>, number: u32) -> bool
     ensures { λ r. ⌜ r ≡ overlong (now (now (reader .entry) .words)) number ⌝ }
 {
-    is_overlong(kind(reader.record(number).head), reader.survey(number, NONE))
+    is_overlong(
+        kind(reader.record(number).head),
+        reader.survey(number, NONE),
+    )
 }
 
 /// The lowest record whose chain has too many assignments or too much weight.

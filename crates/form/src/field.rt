@@ -47,7 +47,10 @@ impl Target {
         ensures { λ r. ⌜ r ≡ belongs self kind ⌝ }
     {
         match self {
-            Target::Behaviour => kind == 0 || kind == 1 || 4 <= kind && kind <= 9 || 11 <= kind && kind <= 13,
+            Target::Behaviour => kind == 0
+                || kind == 1
+                || 4 <= kind && kind <= 9
+                || 11 <= kind && kind <= 13,
             Target::Branch => kind == 2,
             Target::Assignment => kind == 3,
             Target::Catch => kind == 10,
@@ -76,13 +79,28 @@ pub(crate) fn layout_of(kind: u32) -> Layout
     match kind {
         0 | 4 => row(zero, zero, zero, zero),
         1 => row(zero, Field::Action, Field::Maybe(Target::Branch), zero),
-        2 => row(Field::Weight, Field::Maybe(Target::Assignment), Field::Maybe(Target::Behaviour), Field::Maybe(Target::Branch)),
-        3 => row(Field::Number, Field::Number, zero, Field::Maybe(Target::Assignment)),
+        2 => row(
+            Field::Weight,
+            Field::Maybe(Target::Assignment),
+            Field::Maybe(Target::Behaviour),
+            Field::Maybe(Target::Branch),
+        ),
+        3 => row(
+            Field::Number,
+            Field::Number,
+            zero,
+            Field::Maybe(Target::Assignment),
+        ),
         5 => row(zero, Field::Exception, zero, zero),
         6 | 7 => row(zero, BEHAVIOUR, BEHAVIOUR, zero),
         8 => row(zero, BEHAVIOUR, zero, zero),
         9 => row(zero, BEHAVIOUR, Field::To(Target::Catch), zero),
-        10 => row(zero, Field::Exception, BEHAVIOUR, Field::Maybe(Target::Catch)),
+        10 => row(
+            zero,
+            Field::Exception,
+            BEHAVIOUR,
+            Field::Maybe(Target::Catch),
+        ),
         11 | 12 => row(zero, Field::Number, BEHAVIOUR, zero),
         13 => row(Field::Process, zero, zero, zero),
         _ => row(Field::Never, zero, zero, zero),

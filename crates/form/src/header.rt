@@ -12,6 +12,7 @@ use words::kind;
 use words::payload;
 
 const MOST_PROCESSES: u32 = 256;
+
 const MOST_RECORDS: u32 = 2048;
 
 /// The least payload of a header word.
@@ -37,7 +38,10 @@ fn header_right(reader: &Reader<'_>, i: usize) -> bool
 {
     let word = reader.word(i);
     let value = payload(word);
-    i < reader.length() && kind(word) as usize == i + 1 && lower_bound(i) <= value && value <= upper_bound(i)
+    i < reader.length()
+        && kind(word) as usize == i + 1
+        && lower_bound(i) <= value
+        && value <= upper_bound(i)
 }
 
 /// The lowest header word that is missing or wrong.
@@ -80,7 +84,11 @@ pub(crate) fn check_processes(reader: &Reader<'_>) -> Result<(), Fault>
     ensures { λ r. ⌜ processCheck (now (now (reader .entry) .words)) r ⌝ }
 {
     for process in 0..reader.processes() {
-        expect(process_right(reader, process), Refusal::Process, 3 + process as usize)?;
+        expect(
+            process_right(reader, process),
+            Refusal::Process,
+            3 + process as usize,
+        )?;
     }
     Ok(())
 }

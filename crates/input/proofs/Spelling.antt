@@ -32,5 +32,5 @@ word-more before after bs all w h w-is after-is whole =
     let first = word-first bs h in
     let rest = take-rest bs 4 in
     let split : (before ++ (w ∷ [])) ++ wordsOf (drop 4 bs) ≡ before ++ (w ∷ wordsOf (drop 4 bs)) =
-        append-assoc before (w ∷ []) (wordsOf (drop 4 bs)) in
+    append-assoc before (w ∷ []) (wordsOf (drop 4 bs)) in
     rw (after-is, rest) (split ∙ (ap (λ x. before ++ (x ∷ wordsOf (drop 4 bs))) w-is ∙ (ap (λ xs. before ++ xs) (sym first) ∙ whole)))

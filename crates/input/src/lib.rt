@@ -17,7 +17,11 @@ pub fn check_bytes(bytes: &[u8]) -> Result<(), Fault>
     ensures { λ r. ⌜ byteCheck (now (bytes .entry)) r ⌝ }
 {
     let count = bytes.len();
-    expect(count % 4 == 0 && count <= MOST_BYTES, Refusal::Bytes, count.min(MOST_BYTES + 1))
+    expect(
+        count % 4 == 0 && count <= MOST_BYTES,
+        Refusal::Bytes,
+        count.min(MOST_BYTES + 1),
+    )
 }
 
 /// The words that the bytes spell, the lowest byte of each first.

@@ -30,7 +30,7 @@ pub judged : (us ws t : List ℕ) (r : Result (Unit {0}) Fault) → us ≡ ws �
 judged us ws t r same formed answer =
     let all = all-in-reach us t (formed .1 .1 .0) in
     let here : verdict us (length t) r =
-        then-second (wellFormed us (length t)) (descentCheck us (records us)) r formed (subst (λ n. descentCheck us n r) all answer) in
+    then-second (wellFormed us (length t)) (descentCheck us (records us)) r formed (subst (λ n. descentCheck us n r) all answer) in
     subst (λ x. verdict x (length t) r) same here
 
 pub judged-filled : (us ws t filled : List ℕ) (r : Result (Unit {0}) Fault) → us ≡ ws → wellFormed us (length t) (Ok tt)
@@ -38,7 +38,7 @@ pub judged-filled : (us ws t filled : List ℕ) (r : Result (Unit {0}) Fault) �
 judged-filled us ws t filled r same formed answer =
     let all = all-in-reach us t (formed .1 .1 .0) in
     let here : made r (λ _. Filled (downIn us (records us)) filled) =
-        subst (λ n. made r (λ _. Filled (downIn us n) filled)) all answer in
+    subst (λ n. made r (λ _. Filled (downIn us n) filled)) all answer in
     subst (λ x. made r (λ _. Filled (downIn x (records x)) filled)) same here
 
 -- there is one verdict

@@ -5,6 +5,7 @@ ghost use lib.ListN.{length};
 ghost use Rattle.std.specs.Of.Vec.{vec-items};
 ghost use Rattle.sheet.specs.Layout.{processes, records};
 ghost use Rattle.model.specs.Loaded.{Headed, Bodied, Worded, Unrepeated, Bounded, Measured, Limited};
+
 mod loader;
 mod reads;
 

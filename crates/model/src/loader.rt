@@ -43,7 +43,11 @@ pub fn load(words: Vec<u32>, mut table: Vec<u32>) -> Result<Model, Refused>
         Ok(()) => Ok(Model { words, table }),
         Err(fault) => {
             table.fill(0);
-            Err(Refused { fault, words, table })
+            Err(Refused {
+                fault,
+                words,
+                table,
+            })
         }
     }
 }

@@ -25,10 +25,10 @@ pub opened : (bytes ws t : List ℕ) (m : Model) → byteCheck bytes (Ok tt) →
     → length t ≡ roomFor (wordsOf bytes) → Accepted ws (length t) m → Opened bytes m
 opened bytes ws t m fours spelt room accepted =
     let there : verdict (wordsOf bytes) (length t) (Ok tt) = subst (λ x. verdict x (length t) (Ok tt)) spelt (accepted .right) in
-    record
-    { right = (fours, subst (λ n. verdict (wordsOf bytes) n (Ok tt)) room there)
-    ; words = accepted .words ∙ spelt
-    ; table = subst (λ x. Filled (downIn x (records x)) (vec-items (m .table))) spelt (accepted .table)
+    record {
+      right = (fours, subst (λ n. verdict (wordsOf bytes) n (Ok tt)) room there);
+      words = accepted .words ∙ spelt;
+      table = subst (λ x. Filled (downIn x (records x)) (vec-items (m .table))) spelt (accepted .table);
     }
 
 pub unopened : (bytes ws t : List ℕ) (f : Fault) → byteCheck bytes (Ok tt) → ws ≡ wordsOf bytes

@@ -4,18 +4,27 @@ ghost use Rattle.std.specs.Of.String.{string-bytes};
 ghost use Rattle.std.specs.Of.Vec.{vec-items};
 ghost use Rattle.std.specs.Vec.{made};
 ghost use Rattle.report.specs.Judging.{counts, rightLine, Judged};
-use crate::opening::open_sheet;
 use crate::explain;
+use crate::opening::open_sheet;
 use descent::depth;
 use descent::span;
 use model::Model;
 use std::alloc::AllocError;
 use std::alloc::Global;
 
-fn line(heap: Global, processes: u32, records: u32, depth: u32, span: u32) -> Result<String, AllocError>
+fn line(
+    heap: Global,
+    processes: u32,
+    records: u32,
+    depth: u32,
+    span: u32,
+) -> Result<String, AllocError>
     ensures { λ r. ⌜ made r (λ s. string-bytes s ≡ counts processes records depth span) ⌝ }
 {
-    format!(heap, "right: processes {processes}, records {records}, depth {depth}, span {span}\n")
+    format!(
+        heap,
+        "right: processes {processes}, records {records}, depth {depth}, span {span}\n"
+    )
 }
 
 /// The line of a sheet that is right.
@@ -24,7 +33,13 @@ fn right(heap: Global, model: &Model) -> Result<String, AllocError>
 {
     let reader = model.reader();
     let size = model.size(reader.body(0));
-    line(heap, reader.processes(), reader.records(), depth(size), span(size))
+    line(
+        heap,
+        reader.processes(),
+        reader.records(),
+        depth(size),
+        span(size),
+    )
 }
 
 /// What is printed of a sheet that is handed in as bytes.

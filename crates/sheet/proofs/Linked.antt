@@ -67,12 +67,12 @@ seen-next ws key whole n i r count weight keyed h ne seen =
     let few = seen .few in
     let light = seen .light in
     let small : payloadOf (recordAt ws r .head) < 268435456 = omega arith in
-    record
-    { counted = omega arith
-    ; weighed = omega arith
-    ; found = or-assoc keyed (eqb (keyOf (recordAt ws r)) key) (keyAmong ws key later) ∙ f
-    ; few = omega arith
-    ; light = omega arith
+    record {
+      counted = omega arith;
+      weighed = omega arith;
+      found = or-assoc keyed (eqb (keyOf (recordAt ws r)) key) (keyAmong ws key later) ∙ f;
+      few = omega arith;
+      light = omega arith;
     }
 
 -- one record more, read as x

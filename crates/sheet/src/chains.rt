@@ -21,7 +21,11 @@ impl Record {
     pub fn key(self) -> u32
         ensures { λ r. ⌜ r ≡ keyOf self ⌝ }
     {
-        if kind(self.head) == 3 { payload(self.head) } else { self.one }
+        if kind(self.head) == 3 {
+            payload(self.head)
+        } else {
+            self.one
+        }
     }
 }
 

@@ -35,7 +35,6 @@ unless refusal place right (Ok u) = right ≡ true
 unless refusal place right (Err f) = (right ≡ false) × (f ≡ fault refusal place)
 
 infixr 4 _then_
-
 abbrev pub _then_ : Check → Check → Check
 _then_ first second (Ok u) = first (Ok u) × second (Ok u)
 _then_ first second (Err f) = first (Err f) ⊎ (first (Ok tt) × second (Err f))

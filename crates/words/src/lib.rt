@@ -88,7 +88,11 @@ pub struct Fault {
 pub fn expect(right: bool, refusal: Refusal, place: usize) -> Result<(), Fault>
     ensures { λ r. ⌜ unless refusal place right r ⌝ }
 {
-    if right { Ok(()) } else { Err(Fault { refusal, place }) }
+    if right {
+        Ok(())
+    } else {
+        Err(Fault { refusal, place })
+    }
 }
 
 /// A word's top four bits, which say what it is.

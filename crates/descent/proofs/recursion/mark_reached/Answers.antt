@@ -19,20 +19,21 @@ loop-holds c =
     let n : ℕ = length (c .args .table .now) in
     let zeros : List ℕ = replicate n 0 in
     let is : c .mark .last .table ≡ marking zeros b
-      = c .mark .ensures .after ∙ (ap (λ t. marking t (c .body .result)) (c .fill .ensures .after (λ y e. e)) ∙ ap (λ k. marking zeros k) (c .body .ensures)) in
-    (subst (λ t. Sound down b t) (sym is) (root-sound down n b),
-    λ h. subst (λ t. Marked t b) (sym is) (marking-marks zeros b (omega (arith, ap length is, length-marking zeros b))),
-    omega arith)
+    = c .mark .ensures .after ∙ (ap (λ t. marking t (c .body .result)) (c .fill .ensures .after (λ y e. e)) ∙ ap (λ k. marking zeros k) (c .body .ensures)) in (
+      subst (λ t. Sound down b t) (sym is) (root-sound down n b),
+      λ h. subst (λ t. Marked t b) (sym is) (marking-marks zeros b (omega (arith, ap length is, length-marking zeros b))),
+      omega arith,
+    )
 
 pub returns : need.returns
 returns c =
     let ws = c .args .reader .now .words .now in
     let n = c .args .count in
     let b : ℕ = body ws (c .args .process) in
-    record
-    { sound = c .spread .ensures .spread .sound b (c .loop .inv .0)
-    ; complete = λ r h reach.
-        reached-complete (downIn ws n) n b (c .spread .last .table) (omega arith) (λ k out. down-outside ws n k out)
-        (λ l. c .spread .ensures .spread .kept b (c .loop .inv .1 (omega arith)))
-        (c .spread .ensures .closed (c .loop-test .left)) reach h
+    record {
+      sound = c .spread .ensures .spread .sound b (c .loop .inv .0);
+      complete = λ r h reach.
+          reached-complete (downIn ws n) n b (c .spread .last .table) (omega arith) (λ k out. down-outside ws n k out)
+          (λ l. c .spread .ensures .spread .kept b (c .loop .inv .1 (omega arith)))
+          (c .spread .ensures .closed (c .loop-test .left)) reach h;
     }

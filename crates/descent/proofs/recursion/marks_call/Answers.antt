@@ -7,14 +7,16 @@ use Rattle.descent.proofs.recursion.marks_call.Needs as need
 
 pub returns-then-is-call : need.returns-then-is-call
 returns-then-is-call c =
-    let k = c .loop-number .number in
-    (λ e. (k, omega arith, called-inside (c .args .reader .now .words .now) (c .args .count) k (omega arith) ∙ (ap callee (sym (c .step .ensures)) ∙ c .is-call .ensures .0 (c .if-is-call .taken))),
-    λ e. refl)
+    let k = c .loop-number .number in (
+      λ e. (k, omega arith, called-inside (c .args .reader .now .words .now) (c .args .count) k (omega arith) ∙ (ap callee (sym (c .step .ensures)) ∙ c .is-call .ensures .0 (c .if-is-call .taken))),
+      λ e. refl,
+    )
 
 pub returns : need.returns
 returns c =
     let ws = c .args .reader .now .words .now in
-    let n = c .args .count in
-    (λ e. absurd (both-ways _ refl e),
-    λ h. let inside = call-inside ws n (h .0) (c .args .process) (h .2) in
-      absurd (c .loop-number .inv (h .0) (omega arith) (h .1) (sym (called-inside ws n (h .0) inside) ∙ h .2)))
+    let n = c .args .count in (
+      λ e. absurd (both-ways _ refl e),
+      λ h. let inside = call-inside ws n (h .0) (c .args .process) (h .2) in
+          absurd (c .loop-number .inv (h .0) (omega arith) (h .1) (sym (called-inside ws n (h .0) inside) ∙ h .2)),
+    )

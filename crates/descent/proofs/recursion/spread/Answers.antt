@@ -12,7 +12,7 @@ use Rattle.descent.proofs.recursion.spread.Needs as need
 use Rattle.descent.proofs.recursion.spread.Needs.{else-table-number-ne0·by·then-table-number-ne0·else-mark-all, else-table-number-ne0·by·else-table-number-ne0}
 
 pub loop-number-again-then-mark-all : need.loop-number-again-then-mark-all
-loop-number-again-then-mark-all c = 
+loop-number-again-then-mark-all c =
     let i = c .loop-number .number in
     let down : (ℕ → Below) = downIn (c .args .reader .now .words .now) (c .args .count) in
     let x = c .below .result in
@@ -30,13 +30,13 @@ loop-number-again c =
     let down : (ℕ → Below) = downIn (c .args .reader .now .words .now) (c .args .count) in
     let t = c .loop-number .table in
     let turn : (c .else-table-number-ne0 .table ≡ t) → Closed down t (i - 1) → Swept down (c .args .count) (i - 1) (c .args .table .now) (c .else-table-number-ne0 .table) (c .loop-number .added)
-      = swept-same down (c .args .count) i (c .args .table .now) t (c .else-table-number-ne0 .table) (c .loop-number .added) (c .loop-number .inv) in
-    elim (c .else-table-number-ne0 .came)
-    [ else-table-number-ne0·by·then-table-number-ne0·else-mark-all w ↦
-        (let x = w .below .result in
-        let at : down (i - 1) ≡ x = down-inside (c .args .reader .now .words .now) (c .args .count) (i - 1) (omega arith) ∙ sym (w .below .ensures) in
-        let adds : addsTo x t ≡ false = sym (w .if-mark-all .ensures tt .answer) in
-        let all : Spread down t (markingAll x t) (addsTo x t) = spread-below down t (i - 1) x at (omega (arith, w)) in
-        turn (w .table-is ∙ (w .mark-all .ensures .after ∙ all .same adds)) (closed-below down t (i - 1) x at adds))
-    | else-table-number-ne0·by·else-table-number-ne0 w ↦ turn (w .table-is) (λ m. absurd (omega (arith, w)))
+    = swept-same down (c .args .count) i (c .args .table .now) t (c .else-table-number-ne0 .table) (c .loop-number .added) (c .loop-number .inv) in
+    elim (c .else-table-number-ne0 .came) [
+      | else-table-number-ne0·by·then-table-number-ne0·else-mark-all w ↦
+          (let x = w .below .result in
+          let at : down (i - 1) ≡ x = down-inside (c .args .reader .now .words .now) (c .args .count) (i - 1) (omega arith) ∙ sym (w .below .ensures) in
+          let adds : addsTo x t ≡ false = sym (w .if-mark-all .ensures tt .answer) in
+          let all : Spread down t (markingAll x t) (addsTo x t) = spread-below down t (i - 1) x at (omega (arith, w)) in
+          turn (w .table-is ∙ (w .mark-all .ensures .after ∙ all .same adds)) (closed-below down t (i - 1) x at adds))
+      | else-table-number-ne0·by·else-table-number-ne0 w ↦ turn (w .table-is) (λ m. absurd (omega (arith, w)))
     ]

@@ -19,9 +19,10 @@ returns-in-Break-expect c =
     let r = c .loop-number .number in
     let down : (ℕ → Below) = downIn (c .args .reader .now .words .now) (c .args .count) in
     let above = leb-false _ _ (h .0) in
-    rw (p .1, p .2)
-    (r
-    , (record { inside = omega arith; is = over-wide down (c .args .table .now) (c .pre .known) r (omega arith) (omega arith); before = c .loop-number .inv }, h .1))
+    rw (p .1, p .2) (
+      r,
+      (record { inside = omega arith; is = over-wide down (c .args .table .now) (c .pre .known) r (omega arith) (omega arith); before = c .loop-number .inv }, h .1),
+    )
 
 pub loop-number-again : need.loop-number-again
 loop-number-again c =
@@ -32,9 +33,9 @@ loop-number-again c =
     let within = leb-true _ _ (c .in-Continue-expect .ensures tt) in
     below-more _ _ (c .loop-number .inv)
     (λ wide.
-      within-narrow (downIn ws n) t (c .pre .known) r
-      (all-known (downIn ws n) t (c .pre .known) n (λ k out. down-outside ws n k out) (c .pre .settled) (c .pre .shallow) r (wide .0))
-      (omega arith) wide)
+    within-narrow (downIn ws n) t (c .pre .known) r
+    (all-known (downIn ws n) t (c .pre .known) n (λ k out. down-outside ws n k out) (c .pre .settled) (c .pre .shallow) r (wide .0))
+    (omega arith) wide)
 
 pub returns : need.returns
 unfolding spanCheck

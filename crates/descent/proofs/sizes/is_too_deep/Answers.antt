@@ -16,12 +16,14 @@ returns-then-table-number-eq0 c =
     let n = c .args .count in
     let r = c .args .number in
     let at : downIn ws n r ≡ c .below .result = down-inside ws n r (c .pre .inside) ∙ sym (c .below .ensures) in
-    let found = c .is-behaviour .ensures in
-    (λ e. unknown-deep (downIn ws n) (c .args .table .now) (c .pre .known) n (λ k out. down-outside ws n k out) (c .pre .settled) r
-      (subst Behaviour (sym at) (found .0 e)) (omega arith),
-    λ deep. found .1 (subst Behaviour at (deep .0)))
+    let found = c .is-behaviour .ensures in (
+      λ e. unknown-deep (downIn ws n) (c .args .table .now) (c .pre .known) n (λ k out. down-outside ws n k out) (c .pre .settled) r
+          (subst Behaviour (sym at) (found .0 e)) (omega arith),
+      λ deep. found .1 (subst Behaviour at (deep .0)),
+    )
 
 pub returns-else-table-number-eq0 : need.returns-else-table-number-eq0
-returns-else-table-number-eq0 c =
-    (λ e. absurd (let z = eqb-true (getD (c .args .table .now) (c .args .number) 0) 0 e in omega arith),
-    λ deep. absurd (known-shallow (downIn (c .args .reader .now .words .now) (c .args .count)) (c .args .table .now) (c .pre .known) (c .args .number) (omega arith) deep))
+returns-else-table-number-eq0 c = (
+  λ e. absurd (let z = eqb-true (getD (c .args .table .now) (c .args .number) 0) 0 e in omega arith),
+  λ deep. absurd (known-shallow (downIn (c .args .reader .now .words .now) (c .args .count)) (c .args .table .now) (c .pre .known) (c .args .number) (omega arith) deep),
+)

@@ -11,9 +11,10 @@ unfolding headerCheck
 returns-in-Break-expect c =
     let p = err-from-errBy (c .from-residual .result) (c .from-residual .ensures .1) in
     let h = c .in-Break-expect .ensures tt in
-    rw (p .1, p .2)
-    (c .loop-i .i
-    , (record { inside = omega arith; is = sym (c .header-right .ensures) ∙ h .0; before = c .loop-i .inv }, h .1))
+    rw (p .1, p .2) (
+      c .loop-i .i,
+      (record { inside = omega arith; is = sym (c .header-right .ensures) ∙ h .0; before = c .loop-i .inv }, h .1),
+    )
 
 pub loop-i-again : need.loop-i-again
 loop-i-again c =

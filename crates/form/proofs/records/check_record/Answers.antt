@@ -12,10 +12,13 @@ pub returns-in-Break-expect : need.returns-in-Break-expect
 returns-in-Break-expect c =
     let p = err-from-errBy (c .from-residual .result) (c .from-residual .ensures .1) in
     let h = c .in-Break-expect .ensures tt in
-    rw (p .1, p .2)
-    (c .loop-j .j
-    , (record { inside = omega arith; is = sym (c .word-right .ensures) ∙ h .0; before = c .loop-j .inv }
-    , h .1 ∙ ap (λ n. fault Record (n + c .loop-j .j)) (rw (c .processes .ensures))))
+    rw (p .1, p .2) (
+      c .loop-j .j,
+      (
+        record { inside = omega arith; is = sym (c .word-right .ensures) ∙ h .0; before = c .loop-j .inv },
+        h .1 ∙ ap (λ n. fault Record (n + c .loop-j .j)) (rw (c .processes .ensures)),
+      ),
+    )
 
 pub loop-j-again : need.loop-j-again
 loop-j-again c =

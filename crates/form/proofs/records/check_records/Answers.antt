@@ -18,10 +18,13 @@ returns-in-Break-check-record c =
     let ws = c .args .reader .now .words .now in
     let r = c .loop-number .number in
     let same : position ws r + h .0 ≡ position ws 0 + (4 * r + h .0) = omega arith in
-    rw (p .1, p .2)
-    (4 * r + h .0
-    , (rows-found (λ r j. wordRight ws r j ≡ false) r _ (h .0) (omega arith) (c .loop-number .inv) (h .1 .0)
-    , h .1 .1 ∙ ap (fault Record) same))
+    rw (p .1, p .2) (
+      4 * r + h .0,
+      (
+        rows-found (λ r j. wordRight ws r j ≡ false) r _ (h .0) (omega arith) (c .loop-number .inv) (h .1 .0),
+        h .1 .1 ∙ ap (fault Record) same,
+      ),
+    )
 
 pub loop-number-again : need.loop-number-again
 loop-number-again c =

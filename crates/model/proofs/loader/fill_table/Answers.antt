@@ -17,8 +17,8 @@ returns c =
     let same = ap length (c .deref-mut .ensures .value) in
     let long : length (c .judge .last .table) ≡ c .args .table .now .len = omega (arith, same, c .judge .kept .table, c .deref-mut .ensures .len) in
     let items = refilled-is (c .args .table .now) (c .judge .last .table) long in
-    record
-    { verdict = subst (λ n. verdict ws n (c .judge .result)) same (c .judge .ensures .verdict)
-    ; filled = subst (λ t. made (c .judge .result) (λ _. Filled (downIn ws (records ws)) t)) (sym items) (c .judge .ensures .filled)
-    ; kept = ap length items ∙ (long ∙ c .args .table .now .ok .0)
+    record {
+      verdict = subst (λ n. verdict ws n (c .judge .result)) same (c .judge .ensures .verdict);
+      filled = subst (λ t. made (c .judge .result) (λ _. Filled (downIn ws (records ws)) t)) (sym items) (c .judge .ensures .filled);
+      kept = ap length items ∙ (long ∙ c .args .table .now .ok .0);
     }

@@ -5,7 +5,7 @@ pub returns : need.returns
 returns c =
     let same = c .new-reader .ensures .0 in
     let formed = c .in-Continue-check-form .ensures tt in
-    record
-    { verdict = judged _ _ (c .args .table .now) _ same formed (c .measure .ensures .verdict)
-    ; filled = judged-filled _ _ (c .args .table .now) _ _ same formed (c .measure .ensures .filled)
+    record {
+      verdict = judged _ _ (c .args .table .now) _ same formed (c .measure .ensures .verdict);
+      filled = judged-filled _ _ (c .args .table .now) _ _ same formed (c .measure .ensures .filled);
     }
