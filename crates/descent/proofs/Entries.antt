@@ -1,16 +1,23 @@
 -- The words of a filled table: what each says of its record and of those below, and that the words suffice.
 use mathlib.Core.Path.{_≡_, refl, sym, ap, _∙_, subst}
 use mathlib.Core.List.{List}
-use mathlib.Core.Logic.{_⊎_, inl, inr, ⊎-elim}
-use Prim.Native.Nat.{ℕ, zero, suc, _+_, _*_, _/_, _%_, _<_, _≤_, max}
+use mathlib.Core.Logic.{inl, inr, ⊎-elim}
+use Prim.Native.Nat.{ℕ, zero, suc, _+_, _<_, _≤_, max}
 use native.Mathlib.Omega.{arith}
 use lib.ListN.{getD}
 use Rattle.sheet.specs.declared.step.Below.{Below}
 use Rattle.sheet.specs.declared.step.Below.the-variants.{Absent, Leaf, One, Two}
 use Rattle.descent.specs.Descents.{To, Behaviour}
-use Rattle.descent.specs.Sizes.{Sized, leaf, one, two, maxDepth, maxSpan, sizeWord, depthOf, spanOf, Holds, Filled}
-use Rattle.descent.specs.Entries.{entryOver, Consistent}
+use Rattle.descent.specs.Sizes.{Sized, leaf, one, two, maxDepth, maxSpan, depthOf, spanOf, Filled}
+use Rattle.descent.specs.Entries.{entryOver}
 use Rattle.descent.proofs.Unique.{sized-same, sized-positive, sized-behaviour}
+
+-- each word follows from those below it
+pub record Consistent (down : ℕ → Below) (t : List ℕ) : Type 0 where
+  pub entry : (r : ℕ) → getD t r 0 ≡ entryOver (down r) t
+  pub below : (r a : ℕ) → To (down r) a → 0 < getD t a 0
+  pub shallow : (r : ℕ) → depthOf (getD t r 0) ≤ maxDepth
+  pub narrow : (r : ℕ) → spanOf (getD t r 0) ≤ maxSpan
 
 to-behaviour : (x : Below) (a : ℕ) → To x a → Behaviour x
 to-behaviour Absent a h = absurd h

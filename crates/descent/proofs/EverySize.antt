@@ -1,5 +1,4 @@
 -- In a well-formed sheet in which no process descends to itself every behaviour has exactly one size.
-use mathlib.Core.Path.{_≡_}
 use mathlib.Core.List.{List}
 use Prim.Native.Nat.{ℕ}
 use Rattle.sheet.specs.Layout.{records, processes, body}

@@ -1,13 +1,13 @@
 -- In a well-formed sheet calls go to bodies, and all other references to lower records.
 use mathlib.Core.Path.{_≡_, refl, sym, ap, _∙_, subst}
 use mathlib.Core.List.{List}
-use mathlib.Core.Logic.{_⊎_, inl, inr, ⊎-elim}
-use mathlib.Core.Bool.{Bool, true, false, cond, _&&_, _||_}
-use Prim.Native.Nat.{ℕ, _+_, _*_, _/_, _%_, _<_, _≤_, min}
+use mathlib.Core.Logic.{⊎-elim}
+use mathlib.Core.Bool.{true, false, _&&_}
+use Prim.Native.Nat.{ℕ, _+_, _*_, _/_, _%_, _<_}
 use native.Mathlib.Omega.{arith}
-use lib.Dec.{eqb, ltb, leb}
-use lib.ListN.{length, getD}
-use Rattle.std.proofs.shelf.Tests.{cases-lt, cases-bool, cond-both, eqb-true, eqb-false, and-parts, ltb-true, both-ways}
+use lib.Dec.{eqb, ltb}
+use lib.ListN.{getD}
+use Rattle.std.proofs.shelf.Tests.{cases-lt, cases-bool, cond-both, eqb-true, and-parts, ltb-true, both-ways}
 use Rattle.std.proofs.shelf.Ways.{tells}
 use Rattle.std.specs.declared.option.Option.{Option}
 use Rattle.std.specs.declared.option.Option.the-variants.{Some, None}
@@ -15,15 +15,16 @@ use Rattle.std.specs.declared.result.Result.the-variants.{Ok}
 use Rattle.words.specs.Words.{kindOf, payloadOf}
 use Rattle.sheet.specs.declared.reader.Record.{Record}
 use Rattle.sheet.specs.declared.step.Below.{Below}
-use Rattle.sheet.specs.declared.step.Below.the-variants.{Absent, Leaf, One, Two}
+use Rattle.sheet.specs.declared.step.Below.the-variants.{One}
 use Rattle.sheet.specs.declared.step.Step.{Step}
 use Rattle.sheet.specs.declared.step.Step.the-variants.{Stop, Act, Break, Throw, Alt, Seq, Loop, Try, When, Urgent, Call, Link}
 use Rattle.sheet.specs.Layout.{processes, records, body, recordAt}
-use Rattle.sheet.specs.Steps.{ofKind, stepOf, stepAt, belowOf, belowAt}
+use Rattle.sheet.specs.Steps.{ofKind, stepAt, belowOf, belowAt}
 use Rattle.form.specs.Fields.{behaviourKind, layoutOf, fieldOf, valueOf, admits, wordRight, recordCheck}
 use Rattle.form.specs.Header.{processRight, processCheck}
-use Rattle.descent.specs.Descents.{To, Behaviour, Grounded}
+use Rattle.descent.specs.Descents.{To, Behaviour}
 use Rattle.descent.specs.Records.{downIn, calledIn, callee}
+use Rattle.descent.proofs.Sizable.{Grounded}
 use Rattle.descent.proofs.InSheet.{down-inside, down-outside, called-inside, call-inside}
 
 -- what holds of every kind's step holds of a record's

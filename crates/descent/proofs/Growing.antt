@@ -1,25 +1,23 @@
 -- A word made from true words is true, and once the table is settled every record of small depth has its word.
 use mathlib.Core.Path.{_≡_, refl, sym, ap, _∙_, subst}
 use mathlib.Core.List.{List}
-use mathlib.Core.Logic.{_⊎_, inl, inr, ⊎-elim}
-use mathlib.Core.Bool.{Bool, true, false, cond, _||_}
-use Prim.Native.Nat.{ℕ, zero, suc, _+_, _-_, _*_, _/_, _%_, _<_, _≤_, min, max}
+use mathlib.Core.Logic.{⊎-elim}
+use mathlib.Core.Bool.{Bool, true, false}
+use Prim.Native.Nat.{ℕ, _+_, _<_, _≤_, min, max}
 use native.Mathlib.Omega.{arith}
-use lib.Dec.{eqb, leb}
 use lib.ListN.{length, getD, set, replicate}
 use lib.Seq.{getD-set-same, getD-set-other}
-use Rattle.std.proofs.shelf.Lists.{getD-past, getD-replicate, length-replicate}
-use Rattle.std.proofs.shelf.Sums.{sumBy-set}
 use Rattle.std.proofs.shelf.Tests.{cases-eq, cases-lt, both-ways}
 use Rattle.std.proofs.shelf.Ways.{tells}
-use Rattle.std.specs.shelf.Lists.{sumBy}
 use Rattle.sheet.specs.declared.step.Below.{Below}
 use Rattle.sheet.specs.declared.step.Below.the-variants.{Absent, Leaf, One, Two}
 use Rattle.words.specs.Checks.{Clear}
+use Rattle.descent.specs.Blanks.{blanks}
 use Rattle.descent.specs.Descents.{Behaviour}
 use Rattle.descent.specs.Sizes.{Sized, leaf, one, two, maxDepth, maxSpan, sizeWord, depthOf, spanOf, Deep, Wide, Holds, Filled}
-use Rattle.descent.specs.Growth.{wordFrom, overOne, overTwo, wordOver, Gives, True, Settled, unsized, Grown}
-use Rattle.descent.proofs.Unique.{sized-same, sized-positive, sized-behaviour}
+use Rattle.descent.specs.Growth.{wordFrom, overOne, overTwo, wordOver, Gives, True, Settled, Grown}
+use Rattle.descent.proofs.Blanks.{all-blank, set-fewer}
+use Rattle.descent.proofs.Unique.{sized-same, sized-behaviour}
 
 -- the parts of a word
 parts : (w d s : ℕ) → w ≡ sizeWord d (min s (maxSpan + 1)) → (depthOf w ≡ d) × (spanOf w ≡ min s (maxSpan + 1))
@@ -157,16 +155,6 @@ module _ (down : ℕ → Below) (t : List ℕ) (true-words : True down t) where
       omega arith
 
 module _ (down : ℕ → Below) where
-  -- one turn of a sweep: a word is given at i, or none can be
-  set-fewer : (t : List ℕ) (i w : ℕ) → i < length t → getD t i 0 ≡ 0 → 0 < w → unsized (set t i w) < unsized t
-  unfolding unsized
-  set-fewer t i w h e k =
-      let p : (ℕ → ℕ) = λ v. cond (eqb v 0) 1 0 in
-      let z : p (getD t i 0) ≡ 1 = rw e refl in
-      let y : p w ≡ 0 = grind (arith, tells) in
-      let s : sumBy p (set t i w) + p (getD t i 0) ≡ sumBy p t + p w = sumBy-set p t i w 0 h in
-      omega (arith, s, z, y)
-
   set-true : (t : List ℕ) (i w : ℕ) → i < length t → w ≡ wordOver (down i) t → 0 < w → True down t → True down (set t i w)
   set-true t i w h e k known r m =
       ⊎-elim
@@ -176,6 +164,7 @@ module _ (down : ℕ → Below) where
       subst (λ x. Gives down r x) (sym v) (known r (subst (λ x. 0 < x) v m)))
       (cases-eq r i)
 
+  -- one turn of a sweep: a word is given at i, or none can be
   pub grown-more : (i : ℕ) (before t : List ℕ) (changed : Bool) (w : ℕ) → Grown down i before t changed → i < length t → getD t i 0 ≡ 0
       → w ≡ wordOver (down i) t → 0 < w → Grown down (i + 1) before (set t i w) true
   grown-more i before t changed w g h z e k =
@@ -186,9 +175,9 @@ module _ (down : ℕ → Below) where
         settled = λ q. absurd (both-ways true q refl);
       }
     where
-      earlier : (x : Bool) → (x ≡ true → unsized t < unsized before) → (x ≡ false → t ≡ before) → unsized (set t i w) < unsized before
+      earlier : (x : Bool) → (x ≡ true → blanks t < blanks before) → (x ≡ false → t ≡ before) → blanks (set t i w) < blanks before
       earlier true f s = omega (arith, f refl, set-fewer t i w h z k)
-      earlier false f s = omega (arith, ap unsized (s refl), set-fewer t i w h z k)
+      earlier false f s = omega (arith, ap blanks (s refl), set-fewer t i w h z k)
 
   pub grown-same : (i : ℕ) (before t : List ℕ) (changed : Bool) → Grown down i before t changed → (getD t i 0 ≡ 0 → wordOver (down i) t ≡ 0) → Grown down (i + 1) before t changed
   grown-same i before t changed g here =
@@ -201,9 +190,4 @@ module _ (down : ℕ → Below) where
 
   -- nothing is known in a blank table
   pub blank-true : (n : ℕ) → True down (replicate n 0)
-  blank-true n r h =
-      let zeros : List ℕ = replicate n 0 in
-      absurd (⊎-elim
-      (λ l. let e : getD zeros r 0 ≡ 0 = getD-replicate n r 0 0 l in omega arith)
-      (λ g. let m : length zeros ≡ n = length-replicate n 0 in let e : getD zeros r 0 ≡ 0 = getD-past zeros r 0 (omega arith) in omega arith)
-      (cases-lt r n))
+  blank-true n r h = let e = all-blank n r in absurd (omega arith)

@@ -1,5 +1,5 @@
 -- What the first n records of a sheet are, inside and outside.
-use mathlib.Core.Path.{_≡_, refl}
+use mathlib.Core.Path.{_≡_}
 use mathlib.Core.List.{List}
 use mathlib.Core.Logic.{⊎-elim}
 use Prim.Native.Nat.{ℕ, _<_, _≤_}
@@ -7,7 +7,6 @@ use native.Mathlib.Omega.{arith}
 use lib.Dec.{ltb}
 use Rattle.std.proofs.shelf.Tests.{cases-lt, lt-ltb, le-ltb, cond-true, cond-false}
 use Rattle.std.specs.declared.option.Option.the-variants.{Some, None}
-use Rattle.sheet.specs.declared.step.Below.{Below}
 use Rattle.sheet.specs.declared.step.Below.the-variants.{Absent}
 use Rattle.sheet.specs.Steps.{stepAt, belowAt}
 use Rattle.descent.specs.Records.{downIn, calledIn, callee}

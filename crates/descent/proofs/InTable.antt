@@ -1,26 +1,23 @@
 -- A sheet's filled table in terms of its records alone, and back.
-use mathlib.Core.Path.{_≡_, refl, sym, ap, _∙_, subst}
+use mathlib.Core.Path.{_≡_, sym, ap, _∙_, subst}
 use mathlib.Core.List.{List}
-use mathlib.Core.Logic.{_⊎_, inl, inr, ⊎-elim}
-use Prim.Native.Nat.{ℕ, _+_, _*_, _/_, _%_, _<_, _≤_, min, max}
+use mathlib.Core.Logic.{⊎-elim}
+use Prim.Native.Nat.{ℕ, _<_, _≤_}
 use native.Mathlib.Omega.{arith}
-use lib.Dec.{eqb}
 use lib.ListN.{length, getD}
 use Rattle.std.proofs.shelf.Lists.{getD-past}
 use Rattle.std.proofs.shelf.Tests.{cases-lt, eqb-true}
 use Rattle.std.specs.declared.result.Result.the-variants.{Ok}
 use Rattle.sheet.specs.declared.step.Below.{Below}
 use Rattle.sheet.specs.declared.step.Below.the-variants.{Absent, Leaf, One, Two}
-use Rattle.sheet.specs.Layout.{records, processes, body}
-use Rattle.form.specs.Header.{tableCheck, processCheck}
-use Rattle.form.specs.Fields.{recordCheck}
+use Rattle.sheet.specs.Layout.{records}
+use Rattle.form.specs.Header.{tableCheck}
 use Rattle.sheet.specs.Steps.{belowAt}
-use Rattle.descent.specs.Descents.{To, Behaviour, Grounded}
-use Rattle.descent.specs.Records.{inReach, downIn, calledIn}
-use Rattle.descent.specs.Sizes.{maxDepth, maxSpan, sizeWord, depthOf, spanOf, Filled}
-use Rattle.descent.specs.Entries.{entryOver, Consistent}
+use Rattle.descent.specs.Descents.{To, Behaviour}
+use Rattle.descent.specs.Records.{inReach, downIn}
+use Rattle.descent.specs.Sizes.{maxDepth, maxSpan, depthOf, spanOf, Filled}
+use Rattle.descent.specs.Entries.{entryOver}
 use Rattle.descent.proofs.Entries.{filled-consistent, consistent-filled}
-use Rattle.descent.proofs.Grounds.{grounded, grounded-below}
 use Rattle.descent.proofs.InSheet.{down-inside, down-outside}
 
 -- a table of one word for each record has all of them in reach

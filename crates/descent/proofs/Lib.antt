@@ -1,3 +1,4 @@
+pub mod Blanks
 pub mod Entries
 pub mod EverySize
 pub mod Grounds

@@ -2,20 +2,19 @@
 use mathlib.Core.Path.{_≡_, refl, sym, ap, _∙_, subst}
 use mathlib.Core.List.{List}
 use mathlib.Core.Logic.{_⊎_, inl, inr, ⊎-elim}
-use mathlib.Core.Bool.{Bool, true, false, cond, _&&_, _||_}
-use Prim.Native.Nat.{ℕ, zero, suc, _+_, _-_, _<_, _≤_}
+use mathlib.Core.Bool.{Bool, true, false, _||_}
+use Prim.Native.Nat.{ℕ, _-_, _<_, _≤_}
 use native.Mathlib.Omega.{arith}
 use lib.Dec.{eqb, ltb}
 use lib.ListN.{length, getD, set, replicate, length-set}
-use Rattle.std.proofs.shelf.Lists.{getD-past, getD-replicate, length-replicate}
 use lib.Seq.{getD-set-same, getD-set-other}
-use Rattle.std.proofs.shelf.Sums.{sumBy-set}
-use Rattle.std.proofs.shelf.Tests.{cases-eq, cases-bool, and-parts, ltb-true, eqb-true, eq-eqb, ne-eqb, cond-true, cond-false, and-cases, ltb-false, eqb-false, both-ways, or-parts, cases-lt}
-use Rattle.std.specs.shelf.Lists.{sumBy}
+use Rattle.std.proofs.shelf.Tests.{cases-eq, cases-bool, and-parts, ltb-true, eqb-true, cond-true, cond-false, and-cases, ltb-false, eqb-false, both-ways, or-parts, cases-lt}
 use Rattle.sheet.specs.declared.step.Below.{Below}
 use Rattle.sheet.specs.declared.step.Below.the-variants.{Absent, Leaf, One, Two}
+use Rattle.descent.specs.Blanks.{blanks}
 use Rattle.descent.specs.Descents.{To, Reaches, here, deeper}
-use Rattle.descent.specs.Marks.{Marked, unmarked, isNew, marking, markingAll, addsTo, Sound, Closed, Spread, Reached}
+use Rattle.descent.specs.Marks.{Marked, isNew, marking, markingAll, addsTo, Sound, Closed, Spread}
+use Rattle.descent.proofs.Blanks.{all-blank, set-fewer}
 
 pub length-marking : (t : List ℕ) (a : ℕ) → length (marking t a) ≡ length t
 unfolding marking
@@ -46,14 +45,6 @@ set-keeps t a r h m =
     set-marked : (u : List ℕ) (k : ℕ) → k < length u → Marked (set u k 1) k
     set-marked u k l = omega (arith, getD-set-same u k 1 0 l)
 
-set-fewer : (t : List ℕ) (a : ℕ) → a < length t → getD t a 0 ≡ 0 → unmarked (set t a 1) < unmarked t
-unfolding unmarked
-set-fewer t a h e =
-    let p : (ℕ → ℕ) = λ w. cond (eqb w 0) 1 0 in
-    let z : p (getD t a 0) ≡ 1 = rw e refl in
-    let s : sumBy p (set t a 1) + p (getD t a 0) ≡ sumBy p t + p 1 = sumBy-set p t a 1 0 h in
-    omega (arith, s, z)
-
 new-inside : (t : List ℕ) (a : ℕ) → isNew t a ≡ true → (a < length t) × (getD t a 0 ≡ 0)
 new-inside t a e =
     let h = and-parts (ltb a (length t)) (eqb (getD t a 0) 0) e in
@@ -75,12 +66,7 @@ marking-marks t a h =
 
 module _ (down : ℕ → Below) where
   blank-unmarked : (n k : ℕ) → Marked (replicate n 0) k → ⊥
-  blank-unmarked n k h =
-      let zeros : List ℕ = replicate n 0 in
-      ⊎-elim
-      (λ l. let e : getD zeros k 0 ≡ 0 = getD-replicate n k 0 0 l in omega arith)
-      (λ g. let m : length zeros ≡ n = length-replicate n 0 in let e : getD zeros k 0 ≡ 0 = getD-past zeros k 0 (omega arith) in omega arith)
-      (cases-lt k n)
+  blank-unmarked n k h = let e = all-blank n k in omega arith
 
   -- a blank table with one mark: the marked record reaches itself
   pub root-sound : (n b : ℕ) → Sound down b (marking (replicate n 0) b)
@@ -106,20 +92,26 @@ module _ (down : ℕ → Below) where
           (record {
             kept = λ r n. set-keeps t a r (i .0) n;
             sound = λ b sd r n. ⊎-elim (λ q. subst (λ k. Reaches down b k) (sym q) (deeper (sd s m) to)) (λ n′. sd r n′) (set-marks t a r (i .0) n);
-            fewer = λ q. set-fewer t a (i .0) (i .1);
+            fewer = λ q. set-fewer t a 1 (i .0) (i .1) (omega arith);
             same = λ q. absurd (both-ways true q refl);
           })
       go false e = subst (λ u. Spread down t u false) (sym (marking-old t a e)) (spread-none t)
 
   pub spread-then : {t u v : List ℕ} {x y : Bool} → Spread down t u x → Spread down u v y → Spread down t v (x || y)
-  spread-then {x = false} {y = false} p q =
-      record { kept = λ r m. q .kept r (p .kept r m); sound = λ b s. q .sound b (p .sound b s); fewer = λ e. absurd (both-ways false refl e); same = λ e. q .same refl ∙ p .same refl }
-  spread-then {t = t} {u = u} {v = v} {x = false} {y = true} p q =
-      record { kept = λ r m. q .kept r (p .kept r m); sound = λ b s. q .sound b (p .sound b s); fewer = λ e. subst (λ k. unmarked v < unmarked k) (p .same refl) (q .fewer refl); same = λ e. absurd (both-ways true e refl) }
-  spread-then {t = t} {u = u} {v = v} {x = true} {y = false} p q =
-      record { kept = λ r m. q .kept r (p .kept r m); sound = λ b s. q .sound b (p .sound b s); fewer = λ e. subst (λ k. unmarked k < unmarked t) (sym (q .same refl)) (p .fewer refl); same = λ e. absurd (both-ways true e refl) }
-  spread-then {x = true} {y = true} p q =
-      record { kept = λ r m. q .kept r (p .kept r m); sound = λ b s. q .sound b (p .sound b s); fewer = λ e. omega (arith, p .fewer refl, q .fewer refl); same = λ e. absurd (both-ways true e refl) }
+  spread-then {t} {u} {v} {x} {y} p q =
+      record {
+        kept = λ r m. q .kept r (p .kept r m);
+        sound = λ b s. q .sound b (p .sound b s);
+        fewer = fewer x y (p .fewer) (p .same) (q .fewer) (q .same);
+        same = λ e. let h = or-parts x y e in q .same (h .1) ∙ p .same (h .0);
+      }
+    where
+      fewer : (x y : Bool) → (x ≡ true → blanks u < blanks t) → (x ≡ false → u ≡ t) → (y ≡ true → blanks v < blanks u) → (y ≡ false → v ≡ u)
+          → (x || y) ≡ true → blanks v < blanks t
+      fewer true true f s g z e = omega (arith, f refl, g refl)
+      fewer true false f s g z e = omega (arith, f refl, ap blanks (z refl))
+      fewer false true f s g z e = omega (arith, ap blanks (s refl), g refl)
+      fewer false false f s g z e = absurd (both-ways false refl e)
 
   -- all that stands below a marked record is marked
   pub spread-below : (t : List ℕ) (s : ℕ) (x : Below) → down s ≡ x → Marked t s → Spread down t (markingAll x t) (addsTo x t)

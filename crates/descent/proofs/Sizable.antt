@@ -13,8 +13,14 @@ use Rattle.std.specs.declared.option.Option.the-variants.{Some, None}
 use Rattle.sheet.specs.declared.step.Below.{Below}
 use Rattle.sheet.specs.declared.step.Below.the-variants.{Absent, Leaf, One, Two}
 use Rattle.words.specs.Checks.{Clear}
-use Rattle.descent.specs.Descents.{To, Reaches, here, deeper, Behaviour, DescendsToItself, Grounded}
+use Rattle.descent.specs.Descents.{To, Reaches, here, deeper, Behaviour, DescendsToItself}
 use Rattle.descent.specs.Sizes.{Sized, leaf, one, two}
+
+-- calls go to bodies of the p processes, all other references to lower records, and all of them to behaviours
+pub record Grounded (down : ℕ → Below) (called : ℕ → Option ℕ) (body : ℕ → ℕ) (p : ℕ) : Type 0 where
+  pub bodies : (q : ℕ) → q < p → Behaviour (down (body q))
+  pub calls : (r q : ℕ) → called r ≡ Some q → (q < p) × (down r ≡ One (body q))
+  pub falls : (r t : ℕ) → called r ≡ None → To (down r) t → (t < r) × Behaviour (down t)
 
 abbrev In : ℕ → List ℕ → Type 0
 In q [] = ⊥

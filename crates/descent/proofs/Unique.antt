@@ -1,9 +1,8 @@
 -- A behaviour has at most one depth and one span, each at least 1.
 use mathlib.Core.Path.{_≡_, sym, _∙_, subst}
-use Prim.Native.Nat.{ℕ, _+_, _<_, max}
+use Prim.Native.Nat.{ℕ, _<_}
 use native.Mathlib.Omega.{arith}
 use Rattle.sheet.specs.declared.step.Below.{Below}
-use Rattle.sheet.specs.declared.step.Below.the-variants.{Absent, Leaf, One, Two}
 use Rattle.descent.specs.Descents.{Behaviour}
 use Rattle.descent.specs.Sizes.{Sized, leaf, one, two}
 

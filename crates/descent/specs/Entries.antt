@@ -1,22 +1,14 @@
 -- A filled work table record by record: each word follows from the words below it.
 --   entryOver x t   the word of a record over x: the depth is one more than the greatest below, the span the sum below
-use mathlib.Core.Path.{_≡_}
 use mathlib.Core.List.{List}
-use Prim.Native.Nat.{ℕ, _+_, _<_, _≤_, max}
+use Prim.Native.Nat.{ℕ, _+_, max}
 use lib.ListN.{getD}
 use Rattle.sheet.specs.declared.step.Below.{Below}
 use Rattle.sheet.specs.declared.step.Below.the-variants.{Absent, Leaf, One, Two}
-use Rattle.descent.specs.Descents.{To}
-use Rattle.descent.specs.Sizes.{maxDepth, maxSpan, sizeWord, depthOf, spanOf}
+use Rattle.descent.specs.Sizes.{sizeWord, depthOf, spanOf}
 
 abbrev pub entryOver : Below → List ℕ → ℕ
 entryOver Absent t = 0
 entryOver Leaf t = sizeWord 1 1
 entryOver (One a) t = sizeWord (1 + depthOf (getD t a 0)) (spanOf (getD t a 0))
 entryOver (Two a b) t = sizeWord (1 + max (depthOf (getD t a 0)) (depthOf (getD t b 0))) (spanOf (getD t a 0) + spanOf (getD t b 0))
-
-pub record Consistent (down : ℕ → Below) (t : List ℕ) : Type 0 where
-  pub entry : (r : ℕ) → getD t r 0 ≡ entryOver (down r) t
-  pub below : (r a : ℕ) → To (down r) a → 0 < getD t a 0
-  pub shallow : (r : ℕ) → depthOf (getD t r 0) ≤ maxDepth
-  pub narrow : (r : ℕ) → spanOf (getD t r 0) ≤ maxSpan

@@ -1,3 +1,4 @@
+pub mod Blanks
 pub mod Descents
 pub mod Entries
 pub mod Growth

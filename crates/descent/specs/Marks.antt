@@ -1,26 +1,25 @@
 -- The marks of the recursion check, one word for each record: which records were reached so far.
 --   Marked t r     record r is marked, its word is not 0
---   unmarked t     how many words are 0
 --   isNew t r      r has a word and no mark
 --   marking t r    the table once r is marked
+--   markingAll x t the table once all of x is marked; addsTo x t: whether that adds a mark
 --   Sound b t      only records that b reaches are marked
 --   Closed t r     if r is marked, so is all that stands directly below it
+--   Spread         marks were added below marked records, or nothing changed
+--   Reached n b t  of the first n records exactly those are marked that b reaches
 use Prim.Native.Nat.{ℕ, _<_}
 use mathlib.Core.Path.{_≡_}
 use mathlib.Core.List.{List}
 use mathlib.Core.Bool.{Bool, true, false, cond, _&&_, _||_}
 use lib.Dec.{eqb, ltb}
 use lib.ListN.{length, getD, set}
-use Rattle.std.specs.shelf.Lists.{countBy}
 use Rattle.sheet.specs.declared.step.Below.{Below}
 use Rattle.sheet.specs.declared.step.Below.the-variants.{Absent, Leaf, One, Two}
+use Rattle.descent.specs.Blanks.{blanks}
 use Rattle.descent.specs.Descents.{To, Reaches}
 
 abbrev pub Marked : List ℕ → ℕ → Type 0
 Marked t r = 0 < getD t r 0
-
-unfoldable pub unmarked : List ℕ → ℕ
-unmarked t = countBy (λ w. eqb w 0) t
 
 abbrev pub isNew : List ℕ → ℕ → Bool
 isNew t r = ltb r (length t) && eqb (getD t r 0) 0
@@ -28,7 +27,6 @@ isNew t r = ltb r (length t) && eqb (getD t r 0) 0
 unfoldable pub marking : List ℕ → ℕ → List ℕ
 marking t r = cond (isNew t r) (set t r 1) t
 
--- the table once all below is marked, and whether a mark was added
 abbrev pub markingAll : Below → List ℕ → List ℕ
 markingAll Absent t = t
 markingAll Leaf t = t
@@ -47,14 +45,12 @@ Sound down b t = (r : ℕ) → Marked t r → Reaches down b r
 abbrev pub Closed : (ℕ → Below) → List ℕ → ℕ → Type 0
 Closed down t r = Marked t r → (s : ℕ) → To (down r) s → s < length t → Marked t s
 
--- marks were added below marked records, or nothing changed
 pub record Spread (down : ℕ → Below) (before after : List ℕ) (added : Bool) : Type 0 where
   pub kept : (r : ℕ) → Marked before r → Marked after r
   pub sound : (b : ℕ) → Sound down b before → Sound down b after
-  pub fewer : added ≡ true → unmarked after < unmarked before
+  pub fewer : added ≡ true → blanks after < blanks before
   pub same : added ≡ false → after ≡ before
 
--- exactly the records below n that b reaches are marked
 pub record Reached (down : ℕ → Below) (n b : ℕ) (t : List ℕ) : Type 0 where
   pub sound : Sound down b t
   pub complete : (r : ℕ) → r < n → Reaches down b r → Marked t r

@@ -1,6 +1,6 @@
 -- Where the first n records of a sheet descend, and which of them are calls. A number from n on names no record.
 --   downIn     what stands directly below a record
---   calledIn   the process that a record calls, if it is a call
+--   callee     the process that a step calls, if it is a call; calledIn: the process that a record calls
 --   inReach    how many records are looked at: those that the header names and the table has a word for
 use Prim.Native.Nat.{ℕ, min}
 use mathlib.Core.List.{List}

@@ -1,8 +1,11 @@
 -- The depth and the span of a behaviour, their limits, and the work table that holds them.
 --   Sized r d s      record r has depth d and span s
---   Deep r, Wide r   r is a behaviour whose depth, or whose span, is above the limit
+--   OneSize r        record r has exactly one depth and one span
+--   Deep r, Wide r   r is a behaviour whose depth, or whose span, is above the limit, whatever size it has; it has exactly
+--                    one where the sheet is well formed and no process descends to itself
 --   sizeWord         a depth and a span in one word, from which depthOf and spanOf take them
---   Filled t         the table t holds each behaviour's depth and span within the limits, and 0 for other records
+--   Holds r w        the word w holds the depth and the span of record r, within their limits
+--   Filled t         the table t holds the size of each behaviour, and 0 for other records
 use mathlib.Core.Path.{_≡_}
 use mathlib.Core.List.{List}
 use Prim.Native.Nat.{ℕ, _+_, _*_, _/_, _%_, _<_, _≤_, max}
@@ -13,11 +16,11 @@ use Rattle.descent.specs.Descents.{Behaviour}
 
 -- both are 1 where nothing stands below; else the depth is one more than the greatest below, the span the sum below
 pub data Sized (down : ℕ → Below) : ℕ → ℕ → ℕ → Type 0 where
-  leaf : {r d s : ℕ} → down r ≡ Leaf → d ≡ 1 → s ≡ 1 → Sized down r d s
-  one : {r a d s e : ℕ} → down r ≡ One a → Sized down a d s → e ≡ 1 + d → Sized down r e s
-  two : {r a b d s e t f u : ℕ} → down r ≡ Two a b → Sized down a d s → Sized down b e t → f ≡ 1 + max d e → u ≡ s + t → Sized down r f u
+  leaf : {r depth span : ℕ} → down r ≡ Leaf → depth ≡ 1 → span ≡ 1 → Sized down r depth span
+  one : {r a d s depth : ℕ} → down r ≡ One a → Sized down a d s → depth ≡ 1 + d → Sized down r depth s
+  two : {r a b d s e t depth span : ℕ} → down r ≡ Two a b → Sized down a d s → Sized down b e t
+      → depth ≡ 1 + max d e → span ≡ s + t → Sized down r depth span
 
--- exactly one depth and one span
 pub record OneSize (down : ℕ → Below) (r : ℕ) : Type 0 where
   pub depth : ℕ
   pub span : ℕ
@@ -45,7 +48,6 @@ depthOf w = w / 65536
 abbrev pub spanOf : ℕ → ℕ
 spanOf w = w % 65536
 
--- word w holds the size of record r
 pub record Holds (down : ℕ → Below) (r w : ℕ) : Type 0 where
   pub depth : ℕ
   pub span : ℕ

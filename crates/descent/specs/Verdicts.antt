@@ -1,4 +1,9 @@
--- What is checked of the descents in a sheet of n records, in this order: processes that descend to themselves, depths, spans.
+-- What is checked of the descents in a sheet of n records.
+--   recursionCheck       no process descends to itself
+--   depthCheck           no behaviour is too deep
+--   spanCheck            no behaviour's span is too large
+--   descentCheck         all of them, in this order
+--   EveryBehaviourSized  in a well-formed sheet in which no process descends to itself, every behaviour has exactly one size
 use Prim.Native.Nat.{ℕ}
 use mathlib.Core.List.{List}
 use Rattle.std.specs.declared.result.Result.the-variants.{Ok}
@@ -22,7 +27,6 @@ spanCheck ws n = lowest Span (λ r. r) n (Wide (downIn ws n))
 abbrev pub descentCheck : List ℕ → ℕ → Check
 descentCheck ws n = recursionCheck ws n then depthCheck ws n then spanCheck ws n
 
--- in a well-formed sheet in which no process descends to itself, every behaviour has exactly one depth and span
 abbrev pub EveryBehaviourSized : List ℕ → ℕ → Type 0
 EveryBehaviourSized ws room =
     wellFormed ws room (Ok tt) → recursionCheck ws (records ws) (Ok tt)

@@ -6,11 +6,11 @@ ghost use Rattle.descent.specs.Sizes.{depthOf, spanOf};
 ghost use Rattle.descent.specs.Growth.{wordFrom, overOne, overTwo, wordOver};
 use sheet::Below;
 
-/// A behaviour may descend this often.
+/// The greatest depth of a behaviour.
 const MAX_DEPTH: u32 = 64;
 
-/// A behaviour may list this many edges.
-pub const MAX_SPAN: u32 = 4_096;
+/// The greatest span of a behaviour.
+pub(crate) const MAX_SPAN: u32 = 4_096;
 
 /// A word is its depth times this number, and its span.
 const DEPTH: u32 = 65_536;
@@ -71,7 +71,7 @@ fn word_at(table: &[u32], number: u32) -> u32
 }
 
 /// The word of a record by the words of those that it descends to, 0 while one of them has none.
-pub fn word_over(table: &[u32], below: Below) -> u32
+pub(crate) fn word_over(table: &[u32], below: Below) -> u32
     ensures { λ r. ⌜ r ≡ wordOver below (now (table .entry)) ⌝ }
 {
     match below {

@@ -3,6 +3,7 @@ ghost use mathlib.Core.Path.{_≡_};
 ghost use Rattle.form.specs.Chains.{isRepeat, repeats, isOverlong, overlong, repeatCheck, chainCheck};
 use sheet::Reader;
 use sheet::Survey;
+use sheet::kinds;
 use words::Fault;
 use words::NONE;
 use words::Refusal;
@@ -17,14 +18,14 @@ const MOST_TOTAL: u64 = 65_535;
 fn is_repeat(kind: u32, further: Survey) -> bool
     ensures { λ r. ⌜ r ≡ isRepeat kind further ⌝ }
 {
-    (kind == 3 || kind == 10) && further.keyed
+    (kind == kinds::ASSIGNMENT || kind == kinds::CATCH) && further.keyed
 }
 
 /// Whether the chain from a record of a kind on is too long or too heavy.
 fn is_overlong(kind: u32, own: Survey) -> bool
     ensures { λ r. ⌜ r ≡ isOverlong kind own ⌝ }
 {
-    kind == 3 && own.length > MOST_ASSIGNMENTS || kind == 2 && own.weight > MOST_TOTAL
+    kind == kinds::ASSIGNMENT && own.length > MOST_ASSIGNMENTS || kind == kinds::BRANCH && own.weight > MOST_TOTAL
 }
 
 fn repeats(reader: &Reader<'_>, number: u32) -> bool

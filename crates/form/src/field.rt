@@ -2,6 +2,7 @@
 ghost use mathlib.Core.Path.{_≡_};
 ghost use Rattle.form.specs.Fields.{belongs, layoutOf, fieldOf, valueOf};
 use sheet::Record;
+use sheet::kinds;
 use words::payload;
 
 /// A class of records that a reference may name.
@@ -51,9 +52,9 @@ impl Target {
                 || kind == 1
                 || 4 <= kind && kind <= 9
                 || 11 <= kind && kind <= 13,
-            Target::Branch => kind == 2,
-            Target::Assignment => kind == 3,
-            Target::Catch => kind == 10,
+            Target::Branch => kind == kinds::BRANCH,
+            Target::Assignment => kind == kinds::ASSIGNMENT,
+            Target::Catch => kind == kinds::CATCH,
         }
     }
 }
@@ -77,32 +78,32 @@ pub(crate) fn layout_of(kind: u32) -> Layout
 {
     let zero = Field::Zero;
     match kind {
-        0 | 4 => row(zero, zero, zero, zero),
-        1 => row(zero, Field::Action, Field::Maybe(Target::Branch), zero),
-        2 => row(
+        kinds::STOP | kinds::BREAK => row(zero, zero, zero, zero),
+        kinds::ACT => row(zero, Field::Action, Field::Maybe(Target::Branch), zero),
+        kinds::BRANCH => row(
             Field::Weight,
             Field::Maybe(Target::Assignment),
             Field::Maybe(Target::Behaviour),
             Field::Maybe(Target::Branch),
         ),
-        3 => row(
+        kinds::ASSIGNMENT => row(
             Field::Number,
             Field::Number,
             zero,
             Field::Maybe(Target::Assignment),
         ),
-        5 => row(zero, Field::Exception, zero, zero),
-        6 | 7 => row(zero, BEHAVIOUR, BEHAVIOUR, zero),
-        8 => row(zero, BEHAVIOUR, zero, zero),
-        9 => row(zero, BEHAVIOUR, Field::To(Target::Catch), zero),
-        10 => row(
+        kinds::THROW => row(zero, Field::Exception, zero, zero),
+        kinds::ALT | kinds::SEQ => row(zero, BEHAVIOUR, BEHAVIOUR, zero),
+        kinds::LOOP => row(zero, BEHAVIOUR, zero, zero),
+        kinds::TRY => row(zero, BEHAVIOUR, Field::To(Target::Catch), zero),
+        kinds::CATCH => row(
             zero,
             Field::Exception,
             BEHAVIOUR,
             Field::Maybe(Target::Catch),
         ),
-        11 | 12 => row(zero, Field::Number, BEHAVIOUR, zero),
-        13 => row(Field::Process, zero, zero, zero),
+        kinds::WHEN | kinds::URGENT => row(zero, Field::Number, BEHAVIOUR, zero),
+        kinds::CALL => row(Field::Process, zero, zero, zero),
         _ => row(Field::Never, zero, zero, zero),
     }
 }

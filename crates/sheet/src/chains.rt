@@ -2,6 +2,7 @@
 ghost use mathlib.Core.Path.{_≡_};
 ghost use Rattle.std.specs.Finite.{nth};
 ghost use Rattle.sheet.specs.Chains.{chain, keyOf, surveyOf};
+use crate::kinds;
 use crate::reader::Reader;
 use crate::reader::Record;
 use words::NONE;
@@ -21,7 +22,7 @@ impl Record {
     pub fn key(self) -> u32
         ensures { λ r. ⌜ r ≡ keyOf self ⌝ }
     {
-        if kind(self.head) == 3 {
+        if kind(self.head) == kinds::ASSIGNMENT {
             payload(self.head)
         } else {
             self.one

@@ -1,5 +1,6 @@
 // A model sheet: its words read record by record.
 mod chains;
+pub mod kinds;
 mod reader;
 mod step;
 

@@ -1,6 +1,7 @@
 // What a record says: a behaviour's step, and where it descends.
 ghost use mathlib.Core.Path.{_≡_};
 ghost use Rattle.sheet.specs.Steps.{stepOf, stepAt, belowOf, belowAt};
+use crate::kinds;
 use crate::reader::Reader;
 use crate::reader::Record;
 use words::kind;
@@ -46,17 +47,17 @@ impl Record {
         ensures { λ r. ⌜ r ≡ stepOf self ⌝ }
     {
         match kind(self.head) {
-            0 => Step::Stop,
-            1 => Step::Act(self.one, self.two),
-            4 => Step::Break,
-            5 => Step::Throw(self.one),
-            6 => Step::Alt(self.one, self.two),
-            7 => Step::Seq(self.one, self.two),
-            8 => Step::Loop(self.one),
-            9 => Step::Try(self.one, self.two),
-            11 => Step::When(self.one, self.two),
-            12 => Step::Urgent(self.one, self.two),
-            13 => Step::Call(payload(self.head)),
+            kinds::STOP => Step::Stop,
+            kinds::ACT => Step::Act(self.one, self.two),
+            kinds::BREAK => Step::Break,
+            kinds::THROW => Step::Throw(self.one),
+            kinds::ALT => Step::Alt(self.one, self.two),
+            kinds::SEQ => Step::Seq(self.one, self.two),
+            kinds::LOOP => Step::Loop(self.one),
+            kinds::TRY => Step::Try(self.one, self.two),
+            kinds::WHEN => Step::When(self.one, self.two),
+            kinds::URGENT => Step::Urgent(self.one, self.two),
+            kinds::CALL => Step::Call(payload(self.head)),
             _ => Step::Link,
         }
     }

@@ -1,8 +1,9 @@
-use Prim.Native.Nat.{ℕ, _≤_, _<_}
+use Prim.Native.Nat.{_≤_, _<_}
 use lib.ListN.{length}
 use Rattle.sheet.specs.Layout.{body}
+use Rattle.descent.specs.Blanks.{blanks}
 use Rattle.descent.specs.Records.{downIn}
-use Rattle.descent.specs.Marks.{Marked, Sound, unmarked}
+use Rattle.descent.specs.Marks.{Marked, Sound}
 use Rattle.descent.proofs.recursion.mark_reached.Given as given
 
 abbrev pub Inv-loop : given.InvT-loop
@@ -12,4 +13,4 @@ Inv-loop l =
     × (l .count ≤ length (l .table))
 
 abbrev pub μ-loop : given.MeasureT-loop
-μ-loop l = unmarked (l .table)
+μ-loop l = blanks (l .table)

@@ -1,7 +1,7 @@
 -- A turn at a marked record adds marks, or finds all below it marked.
 use mathlib.Core.Path.{_≡_, sym, _∙_, subst}
 use mathlib.Core.Bool.{true, false}
-use Prim.Native.Nat.{ℕ, _-_, _<_}
+use Prim.Native.Nat.{ℕ, _-_}
 use native.Mathlib.Omega.{arith}
 use Rattle.sheet.specs.declared.step.Below.{Below}
 use Rattle.descent.specs.Records.{downIn}

@@ -1,8 +1,8 @@
 use mathlib.Core.Path.{_≡_, sym, _∙_, ap, subst}
 use mathlib.Core.Bool.{true}
-use Prim.Native.Nat.{ℕ, _+_, _<_}
+use Prim.Native.Nat.{ℕ, _+_}
 use native.Mathlib.Omega.{arith}
-use lib.ListN.{length, getD, set}
+use lib.ListN.{set}
 use Rattle.sheet.specs.declared.step.Below.{Below}
 use Rattle.descent.specs.Records.{downIn}
 use Rattle.descent.specs.Growth.{Grown, wordOver}

@@ -1,9 +1,7 @@
 use mathlib.Core.Path.{_≡_, sym, _∙_, subst}
-use Prim.Native.Nat.{ℕ}
 use native.Mathlib.Omega.{arith}
 use lib.ListN.{getD}
 use Rattle.std.proofs.shelf.Tests.{eqb-true}
-use Rattle.sheet.specs.declared.step.Below.{Below}
 use Rattle.descent.specs.Descents.{Behaviour}
 use Rattle.descent.specs.Records.{downIn}
 use Rattle.descent.proofs.InSheet.{down-inside, down-outside}
