@@ -1,0 +1,4 @@
+pub mod Chained
+pub mod Framing
+pub mod Outcomes
+pub mod Owning

@@ -1,0 +1,12 @@
+pub mod Answered
+pub mod Branches
+pub mod Closing
+pub mod Determined
+pub mod Ended
+pub mod Fits
+pub mod Marks
+pub mod Pairs
+pub mod Readback
+pub mod Runs
+pub mod Writing
+pub mod Zeros

@@ -1,0 +1,5 @@
+pub mod Automata
+pub mod Deadlines
+pub mod Ids
+pub mod Laws
+pub mod Questions
