@@ -68,7 +68,11 @@ fn read_way(model: &Model, number: u32) -> Way
     Way {
         weight: payload(record.head),
         assignments: record.one,
-        goal: if record.two == NONE { Goal::Done } else { Goal::At(Head::Behaviour(record.two)) },
+        goal: if record.two == NONE {
+            Goal::Done
+        } else {
+            Goal::At(Head::Behaviour(record.two))
+        },
     }
 }
 

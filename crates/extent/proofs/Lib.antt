@@ -1,1 +1,2 @@
-pub mod Greatest
+pub mod Coded
+pub mod Sweeping

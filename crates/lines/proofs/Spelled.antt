@@ -22,20 +22,20 @@ unfolding headText
 head-spelled count edges is = ap (λ (n : ℕ). codes "edges " ++ decimal n) is
 
 pub edge-spelled :
-  (number : ℕ) (e : Edge (List ℕ)) (action : ℕ) (guard deadline : List ℕ) (count : ℕ) →
-  action ≡ e .action → guard ≡ e .guard → deadline ≡ e .deadline → count ≡ length (e .branches) →
-  decimal number ++ (codes " " ++ (wordText Action action ++ (codes " g" ++ (bracketed (spaced (wordText Plain) guard)
-  ++ (codes " d" ++ (bracketed (spaced (wordText Deadline) deadline) ++ (codes " b" ++ decimal count)))))))
-  ≡ edgeText number e
+    (number : ℕ) (e : Edge (List ℕ)) (action : ℕ) (guard deadline : List ℕ) (count : ℕ) →
+    action ≡ e .action → guard ≡ e .guard → deadline ≡ e .deadline → count ≡ length (e .branches) →
+    decimal number ++ (codes " " ++ (wordText Action action ++ (codes " g" ++ (bracketed (spaced (wordText Plain) guard)
+    ++ (codes " d" ++ (bracketed (spaced (wordText Deadline) deadline) ++ (codes " b" ++ decimal count)))))))
+    ≡ edgeText number e
 unfolding edgeText
 edge-spelled number e action guard deadline count a g d n = rw (a, g, d, n) refl
 
 pub branch-spelled :
-  (number : ℕ) (b : Branch (List ℕ)) (weight : ℕ) (pairs outcome : List ℕ) →
-  weight ≡ b .weight → pairsIn pairs ≡ b .assignments → outcome ≡ b .outcome →
-  codes " " ++ (decimal number ++ (codes " w" ++ (decimal weight ++ (codes " a" ++ (bracketed (spaced pairText (pairsIn pairs))
-  ++ (codes " > " ++ codeText outcome))))))
-  ≡ branchText number b
+    (number : ℕ) (b : Branch (List ℕ)) (weight : ℕ) (pairs outcome : List ℕ) →
+    weight ≡ b .weight → pairsIn pairs ≡ b .assignments → outcome ≡ b .outcome →
+    codes " " ++ (decimal number ++ (codes " w" ++ (decimal weight ++ (codes " a" ++ (bracketed (spaced pairText (pairsIn pairs))
+    ++ (codes " > " ++ codeText outcome))))))
+    ≡ branchText number b
 unfolding branchText
 branch-spelled number b weight pairs outcome w p o = rw (w, p, o) refl
 

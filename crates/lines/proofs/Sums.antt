@@ -20,7 +20,8 @@ use Rattle.lines.specs.declared.cursor.Cursor.{Cursor}
 pub put-then : (a b c : Cursor) (us vs ws xs ys : List ℕ) → Put a us xs b vs → Put b vs ys c ws → Put a us (xs ++ ys) c ws
 put-then a b c us vs ws xs ys p q = record {
   progress = q .progress ∙ (ap (λ (s : Progress). more s ys) (p .progress) ∙ more-more (reached a us) xs ys);
-  inside = λ h. q .inside (p .inside h) }
+  inside = λ h. q .inside (p .inside h);
+}
 
 pub put-nothing : (a : Cursor) (us : List ℕ) → Put a us [] a us
 put-nothing a us = record { progress = sym (more-none (reached a us)); inside = λ h. h }
@@ -67,6 +68,7 @@ no-pair (v ∷ e ∷ ws) h = absurd (omega arith)
 pub line-done : (start cur : Cursor) (out₀ out₁ out₂ text whole : List ℕ) (r : Answer ℕ) → start ≡ fresh → text ≡ whole → length out₁ ≡ length out₀ → Put start out₀ text cur out₁ → ((ts before : List ℕ) → length before ≡ length out₁ → Put fresh before ts cur out₁ → Finished ts (length out₁) r out₂) → (r ≡ answered (Ok whole) (length out₀)) × (out₂ ≡ printed whole (length out₀))
 line-done start cur out₀ out₁ out₂ text whole r first is long put finish =
     let P : Cursor → Type 0 = λ x. Put x out₀ text cur out₁ in
-    let f = finish text out₀ (sym long) (subst P first put) in
-    ( f .answer ∙ (ap (λ (n : ℕ). answered (Ok text) n) long ∙ ap (λ (ts : List ℕ). answered (Ok ts) (length out₀)) is),
-      f .bytes ∙ (ap (printed text) long ∙ ap (λ (ts : List ℕ). printed ts (length out₀)) is) )
+    let f = finish text out₀ (sym long) (subst P first put) in (
+      f .answer ∙ (ap (λ (n : ℕ). answered (Ok text) n) long ∙ ap (λ (ts : List ℕ). answered (Ok ts) (length out₀)) is),
+      f .bytes ∙ (ap (printed text) long ∙ ap (λ (ts : List ℕ). printed ts (length out₀)) is),
+    )

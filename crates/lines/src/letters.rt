@@ -73,8 +73,20 @@ pub(crate) fn put_word(cursor: &mut Cursor, out: &mut [u8], form: Form, word: u3
     let payload = payload(word);
     match form {
         Form::Plain => cursor.put_number(out, word as usize),
-        Form::Action => put_lettered(cursor, out, action_letter(kind), kind == 1 || kind == 2 || kind == 3, word),
-        Form::Deadline => put_lettered(cursor, out, deadline_letter(kind, payload), kind == 1, word),
+        Form::Action => put_lettered(
+            cursor,
+            out,
+            action_letter(kind),
+            kind == 1 || kind == 2 || kind == 3,
+            word,
+        ),
+        Form::Deadline => put_lettered(
+            cursor,
+            out,
+            deadline_letter(kind, payload),
+            kind == 1,
+            word,
+        ),
         Form::Place => put_lettered(cursor, out, place_letter(kind, payload), kind != 8, word),
     }
 }

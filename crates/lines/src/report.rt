@@ -38,7 +38,12 @@ pub fn edge_line(list: List<'_>, number: usize, out: &mut [u8]) -> Result<usize,
 }
 
 /// The line of a branch of the edge that has a number.
-pub fn branch_line(list: List<'_>, number: usize, branch: usize, out: &mut [u8]) -> Result<usize, Refusal>
+pub fn branch_line(
+    list: List<'_>,
+    number: usize,
+    branch: usize,
+    out: &mut [u8],
+) -> Result<usize, Refusal>
     ensures answer { λ r. ⌜ r ≡ answered (branchLineIn (now (list .entry .words)) number branch) (length (now (out .entry))) ⌝ }
     ensures out { λ _. ⌜ now (out .exit) ≡ outAfter (branchLineIn (now (list .entry .words)) number branch) (now (out .entry)) ⌝ }
 {
@@ -46,7 +51,11 @@ pub fn branch_line(list: List<'_>, number: usize, branch: usize, out: &mut [u8])
 }
 
 /// The line of an edge that was found, with the number that it has in its list.
-pub fn listed_edge_line(edge: ListedEdge<'_>, number: usize, out: &mut [u8]) -> Result<usize, Refusal>
+pub fn listed_edge_line(
+    edge: ListedEdge<'_>,
+    number: usize,
+    out: &mut [u8],
+) -> Result<usize, Refusal>
     ensures answer { λ r. ⌜ r ≡ answered (Ok (edgeText number (edgeAt (edge .entry)))) (length (now (out .entry))) ⌝ }
     ensures out { λ _. ⌜ now (out .exit) ≡ outAfter (Ok (edgeText number (edgeAt (edge .entry)))) (now (out .entry)) ⌝ }
 {
@@ -64,7 +73,11 @@ pub fn listed_edge_line(edge: ListedEdge<'_>, number: usize, out: &mut [u8]) -> 
 }
 
 /// The line of a branch that was found, with the number that it has in its edge.
-pub fn listed_branch_line(branch: ListedBranch<'_>, number: usize, out: &mut [u8]) -> Result<usize, Refusal>
+pub fn listed_branch_line(
+    branch: ListedBranch<'_>,
+    number: usize,
+    out: &mut [u8],
+) -> Result<usize, Refusal>
     ensures answer { λ r. ⌜ r ≡ answered (Ok (branchText number (branchAt (branch .entry)))) (length (now (out .entry))) ⌝ }
     ensures out { λ _. ⌜ now (out .exit) ≡ outAfter (Ok (branchText number (branchAt (branch .entry)))) (now (out .entry)) ⌝ }
 {

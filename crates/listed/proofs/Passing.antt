@@ -7,7 +7,7 @@ use lib.ListN.{length, drop}
 use Rattle.std.proofs.shelf.Lists.{drop-drop}
 
 module _ {X : Type 0} (items : ℕ → List ℕ → List X) (item : List ℕ → X) (behind : List ℕ → List ℕ)
-         (none : (ws : List ℕ) → items zero ws ≡ []) (more : (n : ℕ) (ws : List ℕ) → items (suc n) ws ≡ item ws ∷ items n (behind ws)) where
+    (none : (ws : List ℕ) → items zero ws ≡ []) (more : (n : ℕ) (ws : List ℕ) → items (suc n) ws ≡ item ws ∷ items n (behind ws)) where
   pub count-items : (n : ℕ) (ws : List ℕ) → length (items n ws) ≡ n
   count-items zero ws = ap length (none ws)
   count-items (suc n) ws = ap length (more n ws) ∙ ap suc (count-items n (behind ws))

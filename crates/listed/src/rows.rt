@@ -18,14 +18,22 @@ pub(crate) fn word(words: &[u32], place: usize) -> u32
 fn front(words: &[u32], count: usize) -> &[u32]
     ensures { λ r. ⌜ now r ≡ take count (now (words .entry)) ⌝ }
 {
-    if count < words.len() { &words[0..count] } else { words }
+    if count < words.len() {
+        &words[0..count]
+    } else {
+        words
+    }
 }
 
 /// The words behind the first `count`.
 pub(crate) fn behind(words: &[u32], count: usize) -> &[u32]
     ensures { λ r. ⌜ now r ≡ drop count (now (words .entry)) ⌝ }
 {
-    if count < words.len() { &words[count..] } else { &[] }
+    if count < words.len() {
+        &words[count..]
+    } else {
+        &[]
+    }
 }
 
 /// The number that the payload of the word at a place tells.

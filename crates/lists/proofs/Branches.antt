@@ -18,11 +18,11 @@ use Rattle.lists.proofs.Marks.{wrote-marked}
 use Rattle.lists.proofs.Writing.{wrote-then, wrote-as}
 
 pub branch-written :
-  (b : Branch (List ℕ)) (a r₁ r₂ r₃ r₄ r₅ : Open) (us v₁ v₂ v₃ v₄ v₅ v₆ : List ℕ) (weight place head tail : ℕ) →
-  weight ≡ b .weight → place ≡ endOf r₁ → head ≡ word 0 (length (b .assignments)) → tail ≡ word 0 (length (b .outcome)) →
-  Put a us weight r₁ v₁ → Wrote r₁ v₁ (head ∷ []) r₂ v₂ → Wrote r₂ v₂ (pairWords (b .assignments)) r₃ v₃ →
-  length v₄ ≡ length v₃ → Marked v₃ place (length (b .assignments)) v₄ →
-  Wrote r₃ v₄ (tail ∷ []) r₄ v₅ → Wrote r₄ v₅ (b .outcome) r₅ v₆ → Wrote a us (branchWords b) r₅ v₆
+    (b : Branch (List ℕ)) (a r₁ r₂ r₃ r₄ r₅ : Open) (us v₁ v₂ v₃ v₄ v₅ v₆ : List ℕ) (weight place head tail : ℕ) →
+    weight ≡ b .weight → place ≡ endOf r₁ → head ≡ word 0 (length (b .assignments)) → tail ≡ word 0 (length (b .outcome)) →
+    Put a us weight r₁ v₁ → Wrote r₁ v₁ (head ∷ []) r₂ v₂ → Wrote r₂ v₂ (pairWords (b .assignments)) r₃ v₃ →
+    length v₄ ≡ length v₃ → Marked v₃ place (length (b .assignments)) v₄ →
+    Wrote r₃ v₄ (tail ∷ []) r₄ v₅ → Wrote r₄ v₅ (b .outcome) r₅ v₆ → Wrote a us (branchWords b) r₅ v₆
 unfolding branchWords
 branch-written b a r₁ r₂ r₃ r₄ r₅ us v₁ v₂ v₃ v₄ v₅ v₆ weight place head tail is-weight is-place is-head is-tail p w₂ w₃ long m w₅ w₆ =
     let whole : (weight ∷ word 0 (length (b .assignments)) ∷ pairWords (b .assignments)) ≡ (weight ∷ (head ∷ pairWords (b .assignments))) = rw is-head refl in
@@ -32,11 +32,11 @@ branch-written b a r₁ r₂ r₃ r₄ r₅ us v₁ v₂ v₃ v₄ v₅ v₆ wei
     wrote-as a r₅ us v₆ _ _ (rw (is-weight, is-tail, zero-add (length (b .outcome))) refl) all
 
 pub edge-written :
-  (e : Edge (List ℕ)) (a r₁ r₂ r₃ r₄ r₅ r₆ r₇ : Open) (us v₁ v₂ v₃ v₄ v₅ v₆ v₇ : List ℕ) (guard action deadline branches : ℕ) →
-  guard ≡ guardHeading (length (e .guard)) → action ≡ e .action → deadline ≡ deadlineHeading (length (e .deadline)) → branches ≡ branchesHeading (length (e .branches)) →
-  Wrote a us (guard ∷ []) r₁ v₁ → Wrote r₁ v₁ (action ∷ []) r₂ v₂ → Wrote r₂ v₂ (e .guard) r₃ v₃ →
-  Wrote r₃ v₃ (deadline ∷ []) r₄ v₄ → Wrote r₄ v₄ (e .deadline) r₅ v₅ →
-  Wrote r₅ v₅ (branches ∷ []) r₆ v₆ → Wrote r₆ v₆ (joined branchWords (e .branches)) r₇ v₇ → Wrote a us (edgeWords e) r₇ v₇
+    (e : Edge (List ℕ)) (a r₁ r₂ r₃ r₄ r₅ r₆ r₇ : Open) (us v₁ v₂ v₃ v₄ v₅ v₆ v₇ : List ℕ) (guard action deadline branches : ℕ) →
+    guard ≡ guardHeading (length (e .guard)) → action ≡ e .action → deadline ≡ deadlineHeading (length (e .deadline)) → branches ≡ branchesHeading (length (e .branches)) →
+    Wrote a us (guard ∷ []) r₁ v₁ → Wrote r₁ v₁ (action ∷ []) r₂ v₂ → Wrote r₂ v₂ (e .guard) r₃ v₃ →
+    Wrote r₃ v₃ (deadline ∷ []) r₄ v₄ → Wrote r₄ v₄ (e .deadline) r₅ v₅ →
+    Wrote r₅ v₅ (branches ∷ []) r₆ v₆ → Wrote r₆ v₆ (joined branchWords (e .branches)) r₇ v₇ → Wrote a us (edgeWords e) r₇ v₇
 unfolding edgeWords
 edge-written e a r₁ r₂ r₃ r₄ r₅ r₆ r₇ us v₁ v₂ v₃ v₄ v₅ v₆ v₇ guard action deadline branches is-guard is-action is-deadline is-branches w₁ w₂ w₃ w₄ w₅ w₆ w₇ =
     let last = wrote-then r₅ r₆ r₇ v₅ v₆ v₇ _ _ w₆ w₇ in

@@ -21,9 +21,9 @@ use Rattle.lists.proofs.Runs.{added-none}
 use Rattle.lists.proofs.Writing.{Fitted, fitted}
 
 module _ (e : Edge (List ℕ)) (m m′ : Mark) (ws ws′ : List ℕ) (rec rec′ : Open) (r : Result (Unit {0}) Refusal)
-         (lent : now (rec .mark) ≡ m) (start : rec .start ≡ m .end) (unfilled : rec .full ≡ false)
-         (wrote : Wrote rec ws (edgeWords e) rec′ ws′) (closed : Closed rec′ r (m′ .end) (m′ .count))
-         (few : m .count < 268435455) (inside : m .end ≤ length ws) (long : length ws′ ≡ length ws) where
+    (lent : now (rec .mark) ≡ m) (start : rec .start ≡ m .end) (unfilled : rec .full ≡ false)
+    (wrote : Wrote rec ws (edgeWords e) rec′ ws′) (closed : Closed rec′ r (m′ .end) (m′ .count))
+    (few : m .count < 268435455) (inside : m .end ≤ length ws) (long : length ws′ ≡ length ws) where
   end-is : endOf rec ≡ m .end
   end-is = ap (λ (x : Mark). x .end) lent
 
@@ -40,14 +40,16 @@ module _ (e : Edge (List ℕ)) (m m′ : Mark) (ws ws′ : List ℕ) (rec rec′
       let takes : take (endOf rec′) ws′ ≡ take (m .end) ws ++ edgeWords e = f .takes ∙ ap (λ (n : ℕ). take n ws ++ edgeWords e) end-is in
       let ends : m′ .end ≡ endOf rec′ = rw closes at (closed .ends) in
       let size : endOf rec′ ≡ m .end + length (edgeWords e) =
-            omega (arith, wrote .inside, end-is, length-take (endOf rec′) ws′, length-take (m .end) ws, ap length takes, length-append (take (m .end) ws) (edgeWords e), wrote .inside (omega (arith, end-is))) in
+      omega (arith, wrote .inside, end-is, length-take (endOf rec′) ws′, length-take (m .end) ws, ap length takes, length-append (take (m .end) ws) (edgeWords e), wrote .inside (omega (arith, end-is))) in
       record {
         answer = rw fit (rw closes at (closed .answer));
         added = rw fit (record {
           end = ends ∙ (size ∙ ap (λ (ws : List ℕ). m .end + length ws) (sym words));
           count = (rw closes at (closed .counts)) ∙ omega (arith, count-is);
           taken = ap (λ (n : ℕ). take n ws′) ends ∙ (takes ∙ ap (λ (zs : List ℕ). take (m .end) ws ++ zs) (sym words));
-          inside = λ h. omega (arith, ends, wrote .inside (omega (arith, end-is))) }) }
+          inside = λ h. omega (arith, ends, wrote .inside (omega (arith, end-is)));
+        });
+      }
 
   goes : rec′ .full ≡ true → AddedIfRoom e m ws r m′ ws′
   goes is =
@@ -60,7 +62,9 @@ module _ (e : Edge (List ℕ)) (m m′ : Mark) (ws ws′ : List ℕ) (rec rec′
           end = omega (arith, ends);
           count = omega (arith, rw closes at (closed .counts), count-is);
           taken = ap (λ (n : ℕ). take n ws′) ends ∙ ((rw end-is at (wrote .kept)) ∙ sym (append-nil (take (m .end) ws)));
-          inside = λ h. omega (arith, ends, long) }) }
+          inside = λ h. omega (arith, ends, long);
+        });
+      }
     where
       over-fits : over ≡ cond (fits e m ws) (fitting (take (m .end) ws ++ edgeWords e) (length ws - m .end - length (edgeWords e))) over → fits e m ws ≡ false
       over-fits h = go (fits e m ws) refl

@@ -26,7 +26,8 @@ edge-countable c knows isPlace e ceilings fits lawful = record {
   deadline = omega (arith, fits .deadline, ceilings .size);
   branches = omega (arith, branches-weigh isPlace (e .branches) (lawful .branches), sum-map (λ (b : Branch (List ℕ)). b .weight) (e .branches), fits .weight, ceilings .weight);
   assignments = all-weaker (BranchFits c) (λ b. length (b .assignments) < 268435456) (λ b h. omega (arith, h .assignments, ceilings .size)) (e .branches) (fits .branches);
-  outcomes = all-weaker (BranchFits c) (λ b. length (b .outcome) < 268435456) (λ b h. omega (arith, h .outcome, ceilings .size)) (e .branches) (fits .branches) }
+  outcomes = all-weaker (BranchFits c) (λ b. length (b .outcome) < 268435456) (λ b h. omega (arith, h .outcome, ceilings .size)) (e .branches) (fits .branches);
+}
 
 all-countable : (c : Ceilings) (knows : ℕ → Bool) (isPlace : List ℕ → Bool) (es : List (Edge (List ℕ))) → LawfulCeilings c → All (EdgeFits c) es → All (LawfulEdge knows isPlace) es → All Countable es
 all-countable c knows isPlace [] ceilings fits lawful = tt

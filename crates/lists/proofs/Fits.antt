@@ -30,6 +30,7 @@ edge-here M id e h = go (eqb (M .automaton .ceilings .edges) 0) refl
     there : (o : Option (Edge (List ℕ))) → found NoEdge o ≡ Ok e → o ≡ Some e
     there (Some x) k = cc
     there None k = absurd (let z : _≡_ {A = ℕ} 0 1 = cc in omega arith)
+
     go : (b : Bool) → eqb (M .automaton .ceilings .edges) 0 ≡ b → (0 < M .automaton .ceilings .edges) × (edgeHere M id ≡ Some e)
     go true is = let h′ = rw is at h in absurd (let z : _≡_ {A = ℕ} 0 1 = cc in omega arith)
     go false is =
@@ -47,6 +48,7 @@ module _ (M : Meaning) (law : Lawful M) where
     where
       cases : (id : ℕ) → (M .automaton .ceilings .edges ≤ id + 1) ⊎ (id + 1 < M .automaton .ceilings .edges)
       cases id = grind arith
+
       below : PlaceFits (M .automaton .ceilings) (edgesHere M) (edgeHere M) (M .place) → (0 < M .automaton .ceilings .edges) × (edgeHere M id ≡ Some e) → (M .automaton .ceilings .edges ≤ id + 1) ⊎ (id + 1 < M .automaton .ceilings .edges) → id < 0 + idsOf M
       below fits here (inl past) = let none = fits .vacant id past in let some = here .1 in absurd (let z : _≡_ {A = ℕ} 0 1 = cc in omega arith)
       below fits here (inr h) = omega arith

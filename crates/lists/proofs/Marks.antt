@@ -58,12 +58,19 @@ pub wrote-marked : (a b : Open) (us vs vs′ : List ℕ) (w : ℕ) (ps : List (�
 wrote-marked a b us vs vs′ w ps place long at′ wrote marked = record {
   progress = go (b .full) refl;
   kept = sym (take-take (endOf a) place vs′ past) ∙ (ap (take (endOf a)) (marked .kept) ∙ (take-take (endOf a) place vs past ∙ wrote .kept));
-  grown = wrote .grown; inside = λ h. rw long (wrote .inside h); start = wrote .start; count = wrote .count; lent = wrote .lent }
+  grown = wrote .grown;
+  inside = λ h. rw long (wrote .inside h);
+  start = wrote .start;
+  count = wrote .count;
+  lent = wrote .lent;
+}
   where
     past : endOf a ≤ place
     past = rw at′ (cond-both (ltb (endOf a) (length us)) (endOf a + 1) (endOf a) (λ x. endOf a ≤ x) (λ _. omega arith) (λ _. omega arith))
+
     plain : List ℕ
     plain = w ∷ word 0 (length ps) ∷ pairWords ps
+
     go : (f : Bool) → b .full ≡ f → progressOf b vs′ ≡ more (progressOf a us) (w ∷ countWord ps ∷ pairWords ps)
     go true is = rw is (over-alike (progressOf a us) (w ∷ word 0 (length ps) ∷ pairWords ps) (w ∷ countWord ps ∷ pairWords ps) refl (rw is at (wrote .progress)))
     go false is =
@@ -74,11 +81,11 @@ wrote-marked a b us vs vs′ w ps place long at′ wrote marked = record {
         let before : List ℕ = take (endOf a) us ++ (w ∷ []) in
         let long′ : length before ≡ place = length-append (take (endOf a) us) (w ∷ []) ∙ omega arith in
         let split : vs ≡ before ++ (word 0 (length ps) ∷ (pairWords ps ++ drop (endOf b) vs)) =
-              sym (take-append-drop (endOf b) vs) ∙ (rw (f .takes) (simp append-assoc)) in
+        sym (take-append-drop (endOf b) vs) ∙ (rw (f .takes) (simp append-assoc)) in
         let now′ = marked .marks ps before (drop (endOf b) vs) long′ refl split in
         let whole : vs′ ≡ (take (endOf a) us ++ (w ∷ countWord ps ∷ pairWords ps)) ++ drop (endOf b) vs = now′ ∙ simp append-assoc in
         let size : length (take (endOf a) us ++ (w ∷ countWord ps ∷ pairWords ps)) ≡ length (take (endOf b) vs) =
-              length-append (take (endOf a) us) (w ∷ countWord ps ∷ pairWords ps) ∙ sym (ap length (f .takes) ∙ length-append (take (endOf a) us) (w ∷ word 0 (length ps) ∷ pairWords ps)) in
+        length-append (take (endOf a) us) (w ∷ countWord ps ∷ pairWords ps) ∙ sym (ap length (f .takes) ∙ length-append (take (endOf a) us) (w ∷ word 0 (length ps) ∷ pairWords ps)) in
         let taken : take (endOf b) vs′ ≡ take (endOf a) us ++ (w ∷ countWord ps ∷ pairWords ps) = ap (take (endOf b)) whole ∙ take-back (endOf b) vs (take (endOf a) us ++ (w ∷ countWord ps ∷ pairWords ps)) size in
         let fits : leb (length (w ∷ countWord ps ∷ pairWords ps)) (length us - endOf a) ≡ true = le-leb _ _ (f .room) in
         let left : length vs′ - endOf b ≡ length us - endOf a - length (w ∷ countWord ps ∷ pairWords ps) = ap (λ (n : ℕ). n - endOf b) long ∙ f .leaves in

@@ -23,9 +23,13 @@ two ws [] is h = absurd (omega (arith, ap length is))
 two ws (p ∷ ps) is h =
     let n : length (pairWords (p ∷ ps)) - 2 ≡ length (pairWords ps) = omega arith in
     record {
-      first = p; others = ps; all = refl;
-      variable = rw is refl; expression = rw is refl;
-      rest = rw (is, n) (take-all (length (pairWords ps)) (pairWords ps) (omega arith)) }
+      first = p;
+      others = ps;
+      all = refl;
+      variable = rw is refl;
+      expression = rw is refl;
+      rest = rw (is, n) (take-all (length (pairWords ps)) (pairWords ps) (omega arith));
+    }
 
 pub fewer : (ws : List ℕ) (ps : List (ℕ × ℕ)) → ws ≡ pairWords ps → length ws < 2 → ps ≡ []
 fewer ws [] is h = refl

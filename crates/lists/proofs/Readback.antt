@@ -47,14 +47,15 @@ branches-back : (bs : List (Branch (List ℕ))) (rest : List ℕ) → All (λ b.
 branches-back [] rest few short = (refl, refl)
 branches-back (b ∷ bs) rest few short =
     let split : (branchWords b ++ joined branchWords bs) ++ rest ≡ plain b (few .0) (short .0) (joined branchWords bs ++ rest) =
-          append-assoc (branchWords b) (joined branchWords bs) rest ∙ branch-split b (few .0) (short .0) (joined branchWords bs ++ rest) in
+    append-assoc (branchWords b) (joined branchWords bs) rest ∙ branch-split b (few .0) (short .0) (joined branchWords bs ++ rest) in
     let back = branch-back b (few .0) (short .0) (joined branchWords bs ++ rest) in
     let later = branches-back bs rest (few .1) (short .1) in
     let first : branchesIn (suc (length bs)) (plain b (few .0) (short .0) (joined branchWords bs ++ rest)) ≡ b ∷ bs =
-          ap (λ (x : Branch (List ℕ)). x ∷ branchesIn (length bs) (behindBranch (plain b (few .0) (short .0) (joined branchWords bs ++ rest)))) (back .0)
-          ∙ ap (λ (xs : List (Branch (List ℕ))). b ∷ xs) (ap (branchesIn (length bs)) (back .1) ∙ later .0) in
-    ( ap (branchesIn (suc (length bs))) split ∙ first,
-      ap (behindBranches (suc (length bs))) split ∙ (ap (behindBranches (length bs)) (back .1) ∙ later .1) )
+    ap (λ (x : Branch (List ℕ)). x ∷ branchesIn (length bs) (behindBranch (plain b (few .0) (short .0) (joined branchWords bs ++ rest)))) (back .0)
+    ∙ ap (λ (xs : List (Branch (List ℕ))). b ∷ xs) (ap (branchesIn (length bs)) (back .1) ∙ later .0) in (
+      ap (branchesIn (suc (length bs))) split ∙ first,
+      ap (behindBranches (suc (length bs))) split ∙ (ap (behindBranches (length bs)) (back .1) ∙ later .1),
+    )
 
 module _ (e : Edge (List ℕ)) (countable : Countable e) (rest : List ℕ) where
   flat : List ℕ
@@ -88,7 +89,7 @@ edges-back [] rest h = refl
 edges-back (e ∷ es) rest h =
     let more : List ℕ = joined edgeWords es ++ rest in
     let split : (edgeWords e ++ joined edgeWords es) ++ rest ≡ flat e (h .0) (joined edgeWords es ++ rest) =
-          append-assoc (edgeWords e) (joined edgeWords es) rest ∙ edge-split e (h .0) (joined edgeWords es ++ rest) in
+    append-assoc (edgeWords e) (joined edgeWords es) rest ∙ edge-split e (h .0) (joined edgeWords es ++ rest) in
     let back = edge-back e (h .0) (joined edgeWords es ++ rest) in
     ap (edgesFrom (suc (length es))) split
     ∙ (ap (λ (x : Edge (List ℕ)). x ∷ edgesFrom (length es) (behindEdge (flat e (h .0) (joined edgeWords es ++ rest)))) (back .0)

@@ -38,7 +38,8 @@ added-then m₁ m₂ m₃ ws₁ ws₂ ws₃ xs ys p q =
       end = omega (arith, p .end, q .end, size);
       count = omega (arith, p .count, q .count, length-append xs ys);
       taken = q .taken ∙ (ap (λ (zs : List ℕ). zs ++ joined edgeWords ys) (p .taken) ∙ (append-assoc (take (m₁ .end) ws₁) (joined edgeWords xs) (joined edgeWords ys) ∙ ap (λ (zs : List ℕ). take (m₁ .end) ws₁ ++ zs) (sym words)));
-      inside = λ h. q .inside (p .inside h) }
+      inside = λ h. q .inside (p .inside h);
+    }
 
 -- all edges fit
 pub leading-all : (room : ℕ) (es : List (Edge (List ℕ))) → length (joined edgeWords es) ≤ room → leading room es ≡ es
@@ -83,10 +84,13 @@ module _ (M : Meaning) (from : ℕ) (m₀ m m′ : Mark) (ws₀ ws ws′ : List 
     pub one-more : AddedIfRoom e m ws (Ok tt) m′ ws′ → (done : List (Edge (List ℕ))) × ((edgesHere M ≡ done ++ rest) × Added done m₀ ws₀ m′ ws′)
     one-more step =
         let fit : fits e m ws ≡ true = fit-ok (fits e m ws) (step .answer) in
-        let Q : Bool → Type 0 = λ b. Added (cond b (e ∷ []) []) m ws m′ ws′ in
-        ( sofar .done ++ (e ∷ []),
-          ( whole ∙ sym (append-assoc (sofar .done) (e ∷ []) rest),
-            added-then m₀ m m′ ws₀ ws ws′ (sofar .done) (e ∷ []) (sofar .added) (subst Q fit (step .added)) ) )
+        let Q : Bool → Type 0 = λ b. Added (cond b (e ∷ []) []) m ws m′ ws′ in (
+          sofar .done ++ (e ∷ []),
+          (
+            whole ∙ sym (append-assoc (sofar .done) (e ∷ []) rest),
+            added-then m₀ m m′ ws₀ ws ws′ (sofar .done) (e ∷ []) (sofar .added) (subst Q fit (step .added)),
+          ),
+        )
       where
         fit-ok : (b : Bool) → _≡_ {A = Result (Unit {0}) Refusal} (Ok tt) (cond b (Ok tt) (Err ListTooLong)) → b ≡ true
         fit-ok true h = refl
@@ -99,13 +103,14 @@ module _ (M : Meaning) (from : ℕ) (m₀ m m′ : Mark) (ws₀ ws ws′ : List 
         let added : Added (sofar .done ++ []) m₀ ws₀ m′ ws′ = added-then m₀ m m′ ws₀ ws ws′ (sofar .done) [] (sofar .added) (subst Q (fit .0) (step .added)) in
         let less : length ws₀ - m₀ .end - length (joined edgeWords (sofar .done)) < length (edgeWords e) = omega (arith, leb-false _ _ (fit .0), left-room) in
         let size : length (joined edgeWords (sofar .done ++ (e ∷ rest))) ≡ length (joined edgeWords (sofar .done)) + (length (edgeWords e) + length (joined edgeWords rest)) =
-              ap length (joined-append edgeWords (sofar .done) (e ∷ rest)) ∙ (length-append (joined edgeWords (sofar .done)) (edgeWords e ++ joined edgeWords rest) ∙ ap (λ (n : ℕ). length (joined edgeWords (sofar .done)) + n) (length-append (edgeWords e) (joined edgeWords rest))) in
+        ap length (joined-append edgeWords (sofar .done) (e ∷ rest)) ∙ (length-append (joined edgeWords (sofar .done)) (edgeWords e ++ joined edgeWords rest) ∙ ap (λ (n : ℕ). length (joined edgeWords (sofar .done)) + n) (length-append (edgeWords e) (joined edgeWords rest))) in
         let none : leb (length (joined edgeWords (sofar .done ++ (e ∷ rest)))) (length ws₀ - m₀ .end) ≡ false = lt-leb _ _ (omega (arith, size, less)) in
         let P : List (Edge (List ℕ)) → Type 0 = λ es. AddedLeading es m₀ ws₀ (Err x) m′ ws′ in
         let R : List (Edge (List ℕ)) → Type 0 = λ es. Added es m₀ ws₀ m′ ws′ in
         subst P (sym whole) (record {
           answer = rw none (ap Err (fit .1));
-          added = subst R (append-nil (sofar .done) ∙ sym (leading-stop (length ws₀ - m₀ .end) (sofar .done) e rest had-room less)) added })
+          added = subst R (append-nil (sofar .done) ∙ sym (leading-stop (length ws₀ - m₀ .end) (sofar .done) e rest had-room less)) added;
+        })
       where
         fit-err : (b : Bool) → _≡_ {A = Result (Unit {0}) Refusal} (Err x) (cond b (Ok tt) (Err ListTooLong)) → (b ≡ false) × (x ≡ ListTooLong)
         fit-err true h = absurd (let z : _≡_ {A = ℕ} 0 1 = cc in omega arith)

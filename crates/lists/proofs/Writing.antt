@@ -53,7 +53,8 @@ wrote-then a b c us vs ws xs ys p q = record {
   inside = λ h. q .inside (p .inside h);
   start = q .start ∙ p .start;
   count = q .count ∙ p .count;
-  lent = q .lent ∙ p .lent }
+  lent = q .lent ∙ p .lent;
+}
 
 -- nothing written
 pub more-none : (p : Progress) → more p [] ≡ p
@@ -79,6 +80,7 @@ fitted a us ws taken left h = go (a .full) refl
         let k′ = rw room at k in
         record { unfilled = unfilled; room = leb-true _ _ room; takes = cc; leaves = cc }
     inner false room unfilled k = let k′ = rw room at k in absurd (let z : _≡_ {A = ℕ} 0 1 = cc in omega arith)
+
     go : (b : Bool) → a .full ≡ b → Fitted a us ws taken left
     go true is = let h′ = rw is at h in absurd (let z : _≡_ {A = ℕ} 0 1 = cc in omega arith)
     go false is = inner (leb (length ws) (length us - endOf a)) refl is (rw is at h)
@@ -98,4 +100,10 @@ wrote-full a b us vs xs ys w full =
     let was : over ≡ more (progressOf a us) xs = rw full at (w .progress) in
     record {
       progress = rw full (ap (λ (p : Progress). more p ys) was ∙ more-more (progressOf a us) xs ys);
-      kept = w .kept; grown = w .grown; inside = w .inside; start = w .start; count = w .count; lent = w .lent }
+      kept = w .kept;
+      grown = w .grown;
+      inside = w .inside;
+      start = w .start;
+      count = w .count;
+      lent = w .lent;
+    }

@@ -68,8 +68,11 @@ branchWordsIn ws = drop 1 (behindDeadline ws)
 
 abbrev pub edgeIn : List ℕ → Edge (List ℕ)
 edgeIn ws = record {
-  action = getD ws 1 0; guard = guardRow ws; deadline = deadlineRow ws;
-  branches = branchesIn (branchTotal ws) (branchWordsIn ws) }
+  action = getD ws 1 0;
+  guard = guardRow ws;
+  deadline = deadlineRow ws;
+  branches = branchesIn (branchTotal ws) (branchWordsIn ws);
+}
 
 abbrev pub behindEdge : List ℕ → List ℕ
 behindEdge ws = behindBranches (branchTotal ws) (branchWordsIn ws)

@@ -52,8 +52,8 @@ pub record Put (before : Open) (ws : List ℕ) (w : ℕ) (after : Open) (ws′ :
 pub record Marked (ws : List ℕ) (place count : ℕ) (ws′ : List ℕ) : Type 0 where
   pub kept : take place ws′ ≡ take place ws
   pub marks :
-    (ps : List (ℕ × ℕ)) (before after : List ℕ) → length before ≡ place → length ps ≡ count →
-    ws ≡ before ++ (word 0 count ∷ (pairWords ps ++ after)) → ws′ ≡ before ++ (countWord ps ∷ (pairWords ps ++ after))
+      (ps : List (ℕ × ℕ)) (before after : List ℕ) → length before ≡ place → length ps ≡ count →
+      ws ≡ before ++ (word 0 count ∷ (pairWords ps ++ after)) → ws′ ≡ before ++ (countWord ps ∷ (pairWords ps ++ after))
 
 -- a record is closed if all that was put into it has fitted and the list can count it
 abbrev pub mostListed : ℕ

@@ -36,6 +36,23 @@ impl Mark {
     }
 }
 
+impl Counts {
+    /// How many edges the list has.
+    pub fn edges(self) -> usize
+        ensures { λ r. ⌜ r ≡ self .edges ⌝ }
+    {
+        self.edges
+    }
+
+    /// How many words the list takes, its header among them.
+    pub fn words(self) -> usize
+        ensures { λ r. ⌜ r ≡ self .words ⌝ }
+    {
+        self.words
+    }
+}
+
+/// Makes all words from one on 0.
 fn zero_from(words: &mut [u32], from: usize)
     ensures { λ _. ⌜ now (words .exit) ≡ zeroedFrom from (now (words .entry)) ⌝ }
 {

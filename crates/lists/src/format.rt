@@ -5,12 +5,16 @@ ghost use Rattle.words.specs.Words.{word};
 
 /// Kinds of headings.
 pub(crate) const LIST: u32 = 12;
+
 pub(crate) const GUARD: u32 = 13;
+
 pub(crate) const DEADLINE: u32 = 14;
+
 pub(crate) const BRANCHES: u32 = 15;
 
 /// Kinds of counts: plain, and of assignments that clash.
 pub(crate) const PLAIN: u32 = 0;
+
 pub(crate) const CLASH: u32 = 1;
 
 /// A payload is below this number.

@@ -1,7 +1,5 @@
 // Lists of edges: written by records that undo themselves unless they are closed, and read once they are ended.
-ghost use Prim.Native.Nat.{_+_, _-_, _*_, _<_, _≤_};
-ghost use mathlib.Core.Path.{_≡_};
-use words::Refusal;
+ghost use Prim.Native.Nat.{_<_};
 
 mod clash;
 mod ending;
@@ -12,6 +10,8 @@ mod record;
 mod writer;
 
 pub use listing::Unlisted;
+pub use listing::UnlistedDebug;
+pub use listing::UnlistedPartialEq;
 pub use listing::list;
 pub use reading::List;
 pub use record::Open;

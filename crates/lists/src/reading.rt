@@ -16,20 +16,6 @@ pub struct List<'a> {
 }
 
 impl Counts {
-    /// How many edges the list has.
-    pub fn edges(self) -> usize
-        ensures { λ r. ⌜ r ≡ self .edges ⌝ }
-    {
-        self.edges
-    }
-
-    /// How many words the list takes, its header among them.
-    pub fn words(self) -> usize
-        ensures { λ r. ⌜ r ≡ self .words ⌝ }
-    {
-        self.words
-    }
-
     /// Opens the words of an ended list for reading. A list determines its edges: they are what is read.
     pub fn read(self, words: &[u32]) -> List<'_>
         ensures opened { λ r. ⌜ now (r .words) ≡ now (words .entry) ⌝ }

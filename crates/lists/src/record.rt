@@ -9,7 +9,7 @@ use crate::Mark;
 use words::Refusal;
 
 /// A list's header has room to count this many edges.
-pub(crate) const MOST_EDGES: usize = 268_435_455;
+const MOST_EDGES: usize = 268_435_455;
 
 /// An edge record that is being written at the end of a list.
 ///

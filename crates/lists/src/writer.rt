@@ -81,7 +81,10 @@ fn mark_clash(words: &mut [u32], place: usize, count: usize)
     requires { ⌜ count < 268435456 ⌝ }
     ensures { λ _. ⌜ Marked (now (words .entry)) place count (now (words .exit)) ⌝ }
 {
-    if place < words.len() && 2 * count < words.len() - place && clash(&words[place + 1..place + 1 + 2 * count]) {
+    if place < words.len()
+        && 2 * count < words.len() - place
+        && clash(&words[place + 1..place + 1 + 2 * count])
+    {
         words[place] = heading(CLASH, count);
     }
 }

@@ -48,6 +48,7 @@ occupied-has {X} P f from (suc count) hs id x low high e =
   where
     cases : (a b : ℕ) → a ≤ b → (a ≡ b) ⊎ (suc a ≤ b)
     cases a b h = grind arith
+
     go : (from ≡ id) ⊎ (suc from ≤ id) → (from ≡ id → P x) → (suc from ≤ id → P x) → P x
     go (inl h) k l = k h
     go (inr h) k l = l h
@@ -109,14 +110,26 @@ jump {X} f from (suc count) id e = go (f from) refl (jump f (suc from) count id)
         let here : from ≡ id = let h : orElse (f from) from (leastOccupied f (suc from) count) ≡ Some id = e in let h′ = rw is at h in cc in
         let P : ℕ → Type 0 = λ i. Jump f from (suc count) i in
         subst P here (record {
-          thing = x; left = count; stands = is; low = omega arith; sum = omega arith;
-          things = rw is refl; ids = rw is refl })
+          thing = x;
+          left = count;
+          stands = is;
+          low = omega arith;
+          sum = omega arith;
+          things = rw is refl;
+          ids = rw is refl;
+        })
     go None is later =
         let h : orElse (f from) from (leastOccupied f (suc from) count) ≡ Some id = e in
         let j = later (rw is at h) in
         record {
-          thing = j .thing; left = j .left; stands = j .stands; low = omega (arith, j .low); sum = omega (arith, j .sum);
-          things = rw is (j .things); ids = rw is (j .ids) }
+          thing = j .thing;
+          left = j .left;
+          stands = j .stands;
+          low = omega (arith, j .low);
+          sum = omega (arith, j .sum);
+          things = rw is (j .things);
+          ids = rw is (j .ids);
+        }
 
 pub hop : {X : Type 0} (f : ℕ → Option X) (from bound id : ℕ) → leastOccupied f from (bound - from) ≡ Some id → Hop f from bound id
 hop f from bound id e =
@@ -124,9 +137,13 @@ hop f from bound id e =
     let left : j .left ≡ bound - (id + 1) = omega (arith, j .low, j .sum) in
     let one : suc id ≡ id + 1 = omega arith in
     record {
-      thing = j .thing; stands = j .stands; low = j .low; high = omega (arith, j .low, j .sum);
+      thing = j .thing;
+      stands = j .stands;
+      low = j .low;
+      high = omega (arith, j .low, j .sum);
       things = rw (← left, ← one) (j .things);
-      ids = rw (← left, ← one) (j .ids) }
+      ids = rw (← left, ← one) (j .ids);
+    }
 
 none-left : {X : Type 0} (f : ℕ → Option X) (from count : ℕ) → leastOccupied f from count ≡ None → (occupied f from count ≡ []) × (occupiedIds f from count ≡ [])
 none-left f from zero e = (refl, refl)

@@ -11,6 +11,6 @@ pub data Term : List ℕ → Type 0 where
   always : (truth : ℕ) → truth ≤ 1 → Term (constant truth ∷ [])
   whenever : (c : ℕ) → c < 268435456 → Term (condition c ∷ [])
   combined :
-    (left right whole : List ℕ) (operator : ℕ) →
-    (operator ≡ conjunction) ⊎ (operator ≡ disjunction) →
-    Term left → Term right → whole ≡ left ++ (right ++ operator ∷ []) → Term whole
+      (left right whole : List ℕ) (operator : ℕ) →
+      (operator ≡ conjunction) ⊎ (operator ≡ disjunction) →
+      Term left → Term right → whole ≡ left ++ (right ++ operator ∷ []) → Term whole

@@ -108,7 +108,12 @@ pub fn assignment_count<P: Part>(part: &P, number: usize, branch: usize) -> Resu
 }
 
 /// One of its assignments.
-pub fn assignment<P: Part>(part: &P, number: usize, branch: usize, item: usize) -> Result<Assignment, Refusal>
+pub fn assignment<P: Part>(
+    part: &P,
+    number: usize,
+    branch: usize,
+    item: usize,
+) -> Result<Assignment, Refusal>
     ensures { λ r. ⌜ r ≡ assignmentOf (branchOf (edgeByNumber (P·Part .meaning (now (part .entry))) number) branch) item ⌝ }
 {
     let id = id(part, number)?;
@@ -124,7 +129,12 @@ pub fn outcome_length<P: Part>(part: &P, number: usize, branch: usize) -> Result
 }
 
 /// A word of the code of its outcome.
-pub fn outcome_word<P: Part>(part: &P, number: usize, branch: usize, item: usize) -> Result<u32, Refusal>
+pub fn outcome_word<P: Part>(
+    part: &P,
+    number: usize,
+    branch: usize,
+    item: usize,
+) -> Result<u32, Refusal>
     ensures { λ r. ⌜ r ≡ outcomeWordOf (branchOf (edgeByNumber (P·Part .meaning (now (part .entry))) number) branch) item ⌝ }
 {
     let id = id(part, number)?;

@@ -72,9 +72,10 @@ module _ (ws : List ℕ) where
 
   framed-good : (r d : ℕ) (p q : Path) → isFrame (termAt ws r) ≡ true → within (r ∷ []) p ≡ q → d < suc (suc d) → Good d p → Good (suc d) q
   framed-good r d p q f e less g =
-      subst (Good (suc d)) e
-      (record { leafed = g .0 .leafed; framed = all-push _ (p .frames) r (g .0 .framed) f; conditioned = g .0 .conditioned }
-      , (let w = length-push (p .frames) r in let v : Within d p = g .1 in omega arith))
+      subst (Good (suc d)) e (
+        record { leafed = g .0 .leafed; framed = all-push _ (p .frames) r (g .0 .framed) f; conditioned = g .0 .conditioned },
+        (let w = length-push (p .frames) r in let v : Within d p = g .1 in omega arith),
+      )
 
   when-good : (c d : ℕ) (p q : Path) → underWhen c p ≡ q → Good d p → Good (suc d) q
   when-good c d p q e g =
@@ -83,9 +84,10 @@ module _ (ws : List ℕ) where
 
   urgent-good : (c d : ℕ) (p q : Path) → c < 268435456 → underUrgent c p ≡ q → Good d p → Good (suc d) q
   urgent-good c d p q small e g =
-      subst (Good (suc d)) e
-      (record { leafed = g .0 .leafed; framed = g .0 .framed; conditioned = all-push _ (p .urgents) c (g .0 .conditioned) small }
-      , (let w = length-push (p .urgents) c in let v : Within d p = g .1 in omega arith))
+      subst (Good (suc d)) e (
+        record { leafed = g .0 .leafed; framed = g .0 .framed; conditioned = all-push _ (p .urgents) c (g .0 .conditioned) small },
+        (let w = length-push (p .urgents) c in let v : Within d p = g .1 in omega arith),
+      )
 
   deeper : (d e : ℕ) (p : Path) → d ≤ e → Good d p → Good e p
   deeper d e p h g = (g .0, (let v : Within d p = g .1 in omega arith))

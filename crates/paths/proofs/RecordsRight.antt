@@ -9,7 +9,7 @@ use lib.Dec.{eqb, ltb, leb}
 use lib.ListN.{length, getD}
 use Rattle.std.proofs.shelf.Tests.{cases-lt, cond-both, cond-false, eqb-true, eqb-false, and-parts, and-from, or-cases, ltb-true, lt-ltb, lt-leb, leb-true, both-ways}
 use Rattle.std.proofs.shelf.Ways.{tells}
-use Rattle.words.specs.Words.{kindOf, payloadOf, none}
+use Rattle.words.specs.Words.{kindOf, payloadOf, none, exception}
 use Rattle.sheet.specs.declared.reader.Record.{Record}
 use Rattle.sheet.specs.declared.step.Step.{Step}
 use Rattle.sheet.specs.declared.step.Step.the-variants.{Stop, Act, Break, Throw, Alt, Seq, Loop, Try, When, Urgent, Call, Link}
@@ -22,10 +22,10 @@ use Rattle.paths.proofs.Loading.{Loaded}
 
 -- what holds of every kind's step holds of a record's
 pub by-kind : (P : Step → Type 0) (k : ℕ) (x : Record)
-  → (k ≡ 0 → P Stop) → (k ≡ 1 → P (Act (x .one) (x .two))) → (k ≡ 4 → P Break) → (k ≡ 5 → P (Throw (x .one)))
-  → (k ≡ 6 → P (Alt (x .one) (x .two))) → (k ≡ 7 → P (Seq (x .one) (x .two))) → (k ≡ 8 → P (Loop (x .one)))
-  → (k ≡ 9 → P (Try (x .one) (x .two))) → (k ≡ 11 → P (When (x .one) (x .two))) → (k ≡ 12 → P (Urgent (x .one) (x .two)))
-  → (k ≡ 13 → P (Call (payloadOf (x .head)))) → (behaviourKind k ≡ false → P Link) → P (ofKind k x)
+    → (k ≡ 0 → P Stop) → (k ≡ 1 → P (Act (x .one) (x .two))) → (k ≡ 4 → P Break) → (k ≡ 5 → P (Throw (x .one)))
+    → (k ≡ 6 → P (Alt (x .one) (x .two))) → (k ≡ 7 → P (Seq (x .one) (x .two))) → (k ≡ 8 → P (Loop (x .one)))
+    → (k ≡ 9 → P (Try (x .one) (x .two))) → (k ≡ 11 → P (When (x .one) (x .two))) → (k ≡ 12 → P (Urgent (x .one) (x .two)))
+    → (k ≡ 13 → P (Call (payloadOf (x .head)))) → (behaviourKind k ≡ false → P Link) → P (ofKind k x)
 by-kind P k x stop act leave throw alt seq loop try when urgent call link =
     cond-both (eqb k 0) _ _ P (λ e. stop (eqb-true k 0 e)) (λ n0.
     cond-both (eqb k 1) _ _ P (λ e. act (eqb-true k 1 e)) (λ n1.
@@ -67,7 +67,7 @@ module _ (ws : List ℕ) where
   StepRight Stop = Unit {0}
   StepRight (Act a first) = Linked 2 first
   StepRight Break = Unit {0}
-  StepRight (Throw x) = Unit {0}
+  StepRight (Throw x) = exception x ≡ true
   StepRight (Alt a b) = Kin a × Kin b
   StepRight (Seq a b) = Kin a × Kin b
   StepRight (Loop a) = Kin a
@@ -136,7 +136,7 @@ module _ (ws : List ℕ) where
           (λ e. tt)
           (λ e. maybe-linked 2 (x .two) (admitted 1 2 (omega arith) e))
           (λ e. tt)
-          (λ e. tt)
+          (λ e. admitted 5 1 (omega arith) e)
           (λ e. (referred-kin (x .one) (admitted 6 1 (omega arith) e), referred-kin (x .two) (admitted 6 2 (omega arith) e)))
           (λ e. (referred-kin (x .one) (admitted 7 1 (omega arith) e), referred-kin (x .two) (admitted 7 2 (omega arith) e)))
           (λ e. referred-kin (x .one) (admitted 8 1 (omega arith) e))
@@ -148,6 +148,7 @@ module _ (ws : List ℕ) where
         where
           x : Record
           x = recordAt ws r
+
           small : (c : ℕ) → eqb (kindOf c) 0 ≡ true → c < 268435456
           small c h = let z : c / 268435456 ≡ 0 = eqb-true (c / 268435456) 0 h in omega arith
 

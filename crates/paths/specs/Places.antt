@@ -13,8 +13,6 @@ use Rattle.sheet.specs.declared.step.Step.the-variants.{Stop, Act, Break, Throw
 use Rattle.sheet.specs.Layout.{records}
 use Rattle.sheet.specs.Steps.{stepAt}
 use Rattle.rules.specs.Places.{Head, failed, behaviour, Place, done, running, mostFrames}
-use Rattle.rules.specs.Terms.{isFrame}
-use Rattle.paths.specs.Sheets.{termAt}
 
 abbrev pub isBehaviour : Step → Bool
 isBehaviour Stop = true
@@ -33,8 +31,22 @@ isBehaviour Link = false
 unfoldable pub behaviourAt : List ℕ → ℕ → Bool
 behaviourAt ws r = ltb r (records ws) && isBehaviour (stepAt ws r)
 
+abbrev pub isFrameStep : Step → Bool
+isFrameStep Stop = false
+isFrameStep (Act a first) = false
+isFrameStep Break = false
+isFrameStep (Throw x) = false
+isFrameStep (Alt a b) = false
+isFrameStep (Seq a b) = true
+isFrameStep (Loop a) = true
+isFrameStep (Try a first) = true
+isFrameStep (When c a) = false
+isFrameStep (Urgent c a) = false
+isFrameStep (Call q) = false
+isFrameStep Link = false
+
 unfoldable pub frameAt : List ℕ → ℕ → Bool
-frameAt ws r = isFrame (termAt ws r)
+frameAt ws r = isFrameStep (stepAt ws r)
 
 abbrev pub isHeadWord : List ℕ → ℕ → Bool
 isHeadWord ws w = eqb w failedWord || (eqb (kindOf w) 9 && behaviourAt ws (payloadOf w))
@@ -46,11 +58,13 @@ abbrev pub areFrameWords : List ℕ → List ℕ → Bool
 areFrameWords ws [] = true
 areFrameWords ws (w ∷ rest) = isFrameWord ws w && areFrameWords ws rest
 
+-- a head under frames
+abbrev pub isRunning : List ℕ → ℕ → List ℕ → Bool
+isRunning ws w frames = isHeadWord ws w && (leb (length frames) mostFrames && areFrameWords ws frames)
+
 abbrev pub isPlace : List ℕ → List ℕ → Bool
 isPlace ws [] = false
-isPlace ws (w ∷ frames) =
-    cond (eqb w doneWord) (eqb (length frames) 0)
-    (isHeadWord ws w && (leb (length frames) mostFrames && areFrameWords ws frames))
+isPlace ws (w ∷ frames) = cond (eqb w doneWord) (eqb (length frames) 0) (isRunning ws w frames)
 
 abbrev pub headOfWord : ℕ → Head
 headOfWord w = cond (eqb w failedWord) failed (behaviour (payloadOf w))

@@ -9,8 +9,17 @@ use words::payload;
 /// The most words of a code: a head and 64 frames.
 const MOST_WORDS: usize = 65;
 
-/// A word of this kind names the record that a place's head is.
-const RECORD: u32 = 0x9000_0000;
+/// The code of the place done.
+pub const DONE: u32 = 0x8000_0000;
+
+/// The head word of the error.
+pub const FAILED: u32 = 0x8000_0001;
+
+/// A head word with this kind names a record.
+pub const RECORD: u32 = 0x9000_0000;
+
+/// A word with this kind names a frame.
+pub const FRAME: u32 = 0xA000_0000;
 
 /// At most 65 words: the code of a place.
 #[derive(Clone, Copy)]
@@ -20,7 +29,6 @@ pub struct Code {
     ghost whole: { length words ≡ 65 },
     ghost fits: { count ≤ 65 },
 }
-
 
 impl Code {
     /// The code of a record without frames; of the record's number the payload counts.

@@ -6,6 +6,8 @@ ghost use Rattle.paths.specs.Paths.{codeWords, found, Descended, fromWord, sha
 ghost use Rattle.paths.specs.Places.{placeOf};
 ghost use Rattle.paths.specs.Sheets.{termOf, termAt, spanAt};
 use crate::code::Code;
+use crate::code::DONE;
+use crate::code::FAILED;
 use crate::path::Head;
 use crate::path::Path;
 use crate::path::arriving;
@@ -17,10 +19,6 @@ use model::Model;
 use sheet::Reader;
 use sheet::Step;
 use words::payload;
-
-/// The head word of the place done, and of the error.
-const DONE: u32 = 0x8000_0000;
-const FAILED: u32 = 0x8000_0001;
 
 /// How many slots a record has; one that is no behaviour reads as a stop, which has one.
 fn slots(model: &Model, number: u32) -> usize

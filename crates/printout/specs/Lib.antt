@@ -1,1 +1,2 @@
 pub mod Printouts
+pub mod Texts

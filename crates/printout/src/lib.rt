@@ -10,6 +10,8 @@ ghost use Rattle.lists.specs.Reading.{edgesIn};
 ghost use Rattle.listed.specs.Listed.{edgeAt, branchAt};
 ghost use Rattle.printout.specs.declared.Unprinted.the-variants.{LongLine, NoMemory};
 ghost use Rattle.printout.specs.Printouts.{rows, eachFits, branchLine, branchFits, edgeLines, edgeFits, printoutOf, printable, Puts};
+mod text;
+
 use lines::head_line;
 use lines::listed_branch_line;
 use lines::listed_edge_line;
@@ -18,6 +20,8 @@ use listed::ListedEdge;
 use listed::edge;
 use lists::List;
 use std::alloc::AllocError;
+pub use text::part_text;
+pub use text::refused_line;
 use words::Refusal;
 
 /// Why a list was not printed.

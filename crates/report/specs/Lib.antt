@@ -1,3 +1,2 @@
-pub mod Judging
-pub mod Lines
+pub mod Expanding
 pub mod Opening

@@ -1,14 +1,15 @@
 // Prints, for each sheet named as an argument, its name and what is printed of the sheet.
-use report::judgement;
+use report::expansion;
 use std::env;
 use std::error::AnyError;
 use std::fs;
+use std::io::Write;
 
 fn show(rt: &LibcRuntime, name: &str) -> Result<(), AnyError> {
     let bytes = fs::read(rt, name)?;
-    let text = judgement(rt.alloc(), &bytes)?;
+    let text = expansion(rt.alloc(), &bytes)?;
     rt.println(name)?;
-    rt.print(text.as_str())?;
+    rt.stdout().write_all(&text)?;
     Ok(())
 }
 

@@ -16,7 +16,8 @@ returns-in-Break-edge c =
     let line = no-edge-branch-line (c .args .list .words .now) (c .args .number) (c .args .branch) (missing .past) in
     record {
       answer = (p .1 ∙ ap Err (p .2 ∙ missing .told)) ∙ sym (ap (λ (l : Answer (List ℕ)). answered l (length (c .args .out .now))) line);
-      out = sym (ap (λ (l : Answer (List ℕ)). outAfter l (c .args .out .now)) line) }
+      out = sym (ap (λ (l : Answer (List ℕ)). outAfter l (c .args .out .now)) line);
+    }
 
 pub returns-in-Break-branch : need.returns-in-Break-branch
 returns-in-Break-branch c =
@@ -25,11 +26,13 @@ returns-in-Break-branch c =
     let line = no-branch-line (c .args .list .words .now) (c .args .number) (c .args .branch) _ _ (c .in-Continue-edge .ensures tt) (missing .past) in
     record {
       answer = (p .1 ∙ ap Err (p .2 ∙ missing .told)) ∙ sym (ap (λ (l : Answer (List ℕ)). answered l (length (c .args .out .now))) line);
-      out = sym (ap (λ (l : Answer (List ℕ)). outAfter l (c .args .out .now)) line) }
+      out = sym (ap (λ (l : Answer (List ℕ)). outAfter l (c .args .out .now)) line);
+    }
 
 pub returns : need.returns
 returns c =
     let line = branch-line (c .args .list .words .now) (c .args .number) (c .args .branch) _ _ _ _ (c .in-Continue-edge .ensures tt) (c .in-Continue-branch .ensures tt) in
     record {
       answer = c .listed-branch-line .ensures .answer ∙ sym (ap (λ (l : Answer (List ℕ)). answered l (length (c .args .out .now))) line);
-      out = c .listed-branch-line .ensures .out ∙ sym (ap (λ (l : Answer (List ℕ)). outAfter l (c .args .out .now)) line) }
+      out = c .listed-branch-line .ensures .out ∙ sym (ap (λ (l : Answer (List ℕ)). outAfter l (c .args .out .now)) line);
+    }

@@ -16,11 +16,13 @@ returns-in-Break-edge c =
     let line = no-edge-line (c .args .list .words .now) (c .args .number) (missing .past) in
     record {
       answer = (p .1 ∙ ap Err (p .2 ∙ missing .told)) ∙ sym (ap (λ (l : Answer (List ℕ)). answered l (length (c .args .out .now))) line);
-      out = sym (ap (λ (l : Answer (List ℕ)). outAfter l (c .args .out .now)) line) }
+      out = sym (ap (λ (l : Answer (List ℕ)). outAfter l (c .args .out .now)) line);
+    }
 
 pub returns : need.returns
 returns c =
     let line = edge-line (c .args .list .words .now) (c .args .number) _ _ (c .in-Continue-edge .ensures tt) in
     record {
       answer = c .listed-edge-line .ensures .answer ∙ sym (ap (λ (l : Answer (List ℕ)). answered l (length (c .args .out .now))) line);
-      out = c .listed-edge-line .ensures .out ∙ sym (ap (λ (l : Answer (List ℕ)). outAfter l (c .args .out .now)) line) }
+      out = c .listed-edge-line .ensures .out ∙ sym (ap (λ (l : Answer (List ℕ)). outAfter l (c .args .out .now)) line);
+    }

@@ -25,5 +25,5 @@ pub returns : need.returns
 returns c =
     put-as _ _ _ _ _ _
     (ap (joined (wordText Place)) (take-all (c .loop-word .word-index) (c .args .code .now) (c .loop-word-test .left))
-     ∙ some-code (c .args .code .now) (eqb-false _ _ (sym (c .if-is-empty .ensures tt))))
+    ∙ some-code (c .args .code .now) (eqb-false _ _ (sym (c .if-is-empty .ensures tt))))
     (c .loop-word .inv)

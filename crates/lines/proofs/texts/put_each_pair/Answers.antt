@@ -19,11 +19,14 @@ loop-left-again c =
     let inv = c .loop-left .inv in
     let left : List ℕ = c .loop-left .left .now in
     let pair : ℕ × ℕ = (getD left 0 0, getD left 1 0) in
-    let long : 2 ≤ length left = omega (arith, ltb-false) in
-    ( inv .0 ++ (pair ∷ []),
-      ( inv .1 .0 ∙ (ap (λ (ps : List (ℕ × ℕ)). inv .0 ++ ps) (pair-and-rest left long) ∙ sym (append-assoc (inv .0) (pair ∷ []) _)),
+    let long : 2 ≤ length left = omega (arith, ltb-false) in (
+      inv .0 ++ (pair ∷ []),
+      (
+        inv .1 .0 ∙ (ap (λ (ps : List (ℕ × ℕ)). inv .0 ++ ps) (pair-and-rest left long) ∙ sym (append-assoc (inv .0) (pair ∷ []) _)),
         put-as _ _ _ _ _ _ (sym (joined-one (λ p. codes " " ++ pairText p) (inv .0) pair))
-        (put-then _ _ _ _ _ _ _ _ (inv .1 .1) (put-then _ _ _ _ _ _ _ _ (c .put .ensures) (c .put-pair-in-len2-up-left .ensures))) ) )
+            (put-then _ _ _ _ _ _ _ _ (inv .1 .1) (put-then _ _ _ _ _ _ _ _ (c .put .ensures) (c .put-pair-in-len2-up-left .ensures))),
+      ),
+    )
 
 all-pairs : (ws left : List ℕ) (done : List (ℕ × ℕ)) → 2 ≤ length ws → length left < 2 → pairsIn (take (length ws - 2) (drop 2 ws)) ≡ done ++ pairsIn left → pairText (getD ws 0 0, getD ws 1 0) ++ joined (λ p. codes " " ++ pairText p) done ≡ spaced pairText (pairsIn ws)
 all-pairs ws left done long short is =

@@ -31,7 +31,8 @@ returns-then-not-is-empty c =
     let some : length ws ≡ 0 → ⊥ = λ e. eqb-false _ _ (sym (c .if-not-is-empty .ensures tt)) (ap length (c .zero-from .ensures) ∙ (length-zeroed _ ws ∙ e)) in
     record {
       counts = refl;
-      list = rw (c .zero-from .ensures, c .heading .ensures) (ended-first (c .args .self) (c .args .self .end) ws refl some) }
+      list = rw (c .zero-from .ensures, c .heading .ensures) (ended-first (c .args .self) (c .args .self .end) ws refl some);
+    }
 
 pub returns-else-not-is-empty : need.returns-else-not-is-empty
 returns-else-not-is-empty c =
@@ -39,4 +40,5 @@ returns-else-not-is-empty c =
     let none : ws ≡ [] = nil-from-length ws (sym (length-zeroed (c .args .self .end) ws) ∙ (ap length (sym (c .zero-from .ensures)) ∙ eqb-true _ _ (sym (c .if-not-is-empty .ensures tt)))) in
     record {
       counts = refl;
-      list = nil-from-length _ (eqb-true _ _ (sym (c .if-not-is-empty .ensures tt))) ∙ sym (ap (ended (c .args .self)) none) }
+      list = nil-from-length _ (eqb-true _ _ (sym (c .if-not-is-empty .ensures tt))) ∙ sym (ap (ended (c .args .self)) none);
+    }

@@ -16,8 +16,8 @@ returns-then-another-expression c ps is =
     let long : 2 ≤ length (c .loop-left .left .now) = omega (arith, ltb-false) in
     let t = two (c .loop-left .left .now) (inv .0) (inv .1 .0) long in
     let here = other-expression (c .args .variable) (c .args .expression) (t .first) (t .others)
-                 (sym (t .variable) ∙ c .if-other-variable .taken)
-                 (λ e. c .if-another-expression .taken (t .expression ∙ e)) in
+    (sym (t .variable) ∙ c .if-other-variable .taken)
+    (λ e. c .if-another-expression .taken (t .expression ∙ e)) in
     here ∙ (ap (clashesWith (c .args .variable, c .args .expression)) (sym (t .all)) ∙ inv .1 .1)
 
 pub loop-left-again : need.loop-left-again
@@ -26,12 +26,16 @@ loop-left-again c ps is =
     let long : 2 ≤ length (c .loop-left .left .now) = omega (arith, ltb-false) in
     let t = two (c .loop-left .left .now) (inv .0) (inv .1 .0) long in
     let alike : (eqb (c .args .variable) (t .first .0) && not (eqb (c .args .expression) (t .first .1))) ≡ false =
-          elim (c .else-other-variable .came) [
-            else-other-variable·by·then-other-variable·else-another-expression w ↦ same-expression _ _ (t .first) (sym (t .expression) ∙ w .if-another-expression .left)
-          | else-other-variable·by·else-other-variable w ↦ other-variable _ _ (t .first) (λ e. w .if-other-variable .left (t .variable ∙ e)) ] in
-    ( t .others,
-      ( t .rest,
-        same-so-far _ _ (t .first) (t .others) alike ∙ (ap (clashesWith (c .args .variable, c .args .expression)) (sym (t .all)) ∙ inv .1 .1) ) )
+    elim (c .else-other-variable .came) [
+      | else-other-variable·by·then-other-variable·else-another-expression w ↦ same-expression _ _ (t .first) (sym (t .expression) ∙ w .if-another-expression .left)
+      | else-other-variable·by·else-other-variable w ↦ other-variable _ _ (t .first) (λ e. w .if-other-variable .left (t .variable ∙ e))
+    ] in (
+      t .others,
+      (
+        t .rest,
+        same-so-far _ _ (t .first) (t .others) alike ∙ (ap (clashesWith (c .args .variable, c .args .expression)) (sym (t .all)) ∙ inv .1 .1),
+      ),
+    )
 
 pub returns : need.returns
 returns c ps is =

@@ -10,4 +10,4 @@ returns g c e is =
     closed-as e (c .args .mark .now) (c .close .last .self .0) _ (c .args .words .now) (c .put-edge .last .words) (c .close .result)
     (search needs)
     (edge-closed e (c .args .mark .now) (c .close .last .self .0) (c .args .words .now) (c .put-edge .last .words) (c .open-rec .result) (c .put-edge .last .rec) (c .close .result)
-      (c .open-rec .ensures .same) (c .open-rec .ensures .start) (c .open-rec .ensures .full) wrote (c .close .ensures) (c .pre .few) (c .pre .room) (c .put-edge .kept .words))
+    (c .open-rec .ensures .same) (c .open-rec .ensures .start) (c .open-rec .ensures .full) wrote (c .close .ensures) (c .pre .few) (c .pre .room) (c .put-edge .kept .words))

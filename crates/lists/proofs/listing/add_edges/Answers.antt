@@ -27,7 +27,8 @@ loop-id-holds g c =
     record {
       done = [];
       split = rw all (edges-by-ids M (g .P·Part·met .lawful (c .args .part .now)) (c .pre .sized));
-      added = added-none (c .args .mark .now) (c .args .words .now) }
+      added = added-none (c .args .mark .now) (c .args .words .now);
+    }
 
 pub add-edge-requires : need.add-edge-requires
 add-edge-requires g c κs =
@@ -41,7 +42,8 @@ add-edge-requires g c κs =
     record {
       edge = ap isOk (by-id M (c .in-Some .id) (h .thing) (c .pre .sized) (h .stands));
       few = omega (arith, fewer, count, law .ceilings .edges, inv .added .count, c .pre .none);
-      room = inv .added .inside (c .pre .room) }
+      room = inv .added .inside (c .pre .room);
+    }
 
 pub returns-in-Break-add-edge : need.returns-in-Break-add-edge
 returns-in-Break-add-edge g c =
@@ -51,7 +53,7 @@ returns-in-Break-add-edge g c =
     let p = err-from-errBy (c .from-residual-in-Break-add-edge .result) (c .from-residual-in-Break-add-edge .ensures .1) in
     rw (p .1, p .2)
     (no-room M (c .loop-id .from) (c .args .mark .now) (c .loop-id .mark) (c .add-edge .last .mark) (c .args .words .now) (c .loop-id .words) (c .add-edge .last .words) (c .loop-id .inv) (c .pre .room) (c .loop-id .kept .words) (h .thing) _ (h .things) _
-      (c .in-Break-add-edge .ensures tt (h .thing) (by-id M (c .in-Some .id) (h .thing) (c .pre .sized) (h .stands))))
+    (c .in-Break-add-edge .ensures tt (h .thing) (by-id M (c .in-Some .id) (h .thing) (c .pre .sized) (h .stands))))
 
 pub add-from : need.add-from
 add-from g c =
@@ -74,7 +76,7 @@ loop-id-again g c =
     let was = c .in-Continue-id .was tt in
     let h = next-hop M (c .loop-id .from) (c .in-Some .id) (cc) .1 in
     let more = one-more M (c .loop-id .from) (c .args .mark .now) (c .loop-id .mark) (c .add-edge .last .mark) (c .args .words .now) (c .loop-id .words) (c .add-edge .last .words) (c .loop-id .inv) (c .pre .room) (c .loop-id .kept .words) (h .thing) _ (h .things)
-                 (c .in-Continue-add-edge .ensures tt (h .thing) (by-id M (c .in-Some .id) (h .thing) (c .pre .sized) (h .stands))) in
+    (c .in-Continue-add-edge .ensures tt (h .thing) (by-id M (c .in-Some .id) (h .thing) (c .pre .sized) (h .stands))) in
     record { done = more .0; split = more .1 .0; added = more .1 .1 }
 
 pub returns : need.returns

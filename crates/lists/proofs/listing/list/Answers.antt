@@ -25,7 +25,7 @@ use Rattle.lists.proofs.listing.list.Needs as need
 
 -- a list that fits, and one that does not
 module _ (M : Meaning) (ws ws′ : List ℕ) (counts : Counts) (sized : M .automaton .ceilings .edges ≡ 0 → ⊥)
-         (is-counts : counts ≡ counted (length ws) (edgesHere M)) (is-list : ws′ ≡ listed (length ws) (edgesHere M)) where
+    (is-counts : counts ≡ counted (length ws) (edgesHere M)) (is-list : ws′ ≡ listed (length ws) (edgesHere M)) where
   buffer : ws′ ≡ bufferAfter M ws
   buffer = rw (ne-eqb _ _ sized) is-list
 
@@ -71,7 +71,8 @@ returns-in-rest g c =
     record {
       answer = cut M ws ws _ sized (empty-counts M ws none) is-list (no-header M ws none);
       listed = buffer M ws ws _ sized (empty-counts M ws none) is-list;
-      determined = λ told. listed-back M (g .P·Part·met .lawful (c .args .part .now)) told ws ws (buffer M ws ws _ sized (empty-counts M ws none) is-list) }
+      determined = λ told. listed-back M (g .P·Part·met .lawful (c .args .part .now)) told ws ws (buffer M ws ws _ sized (empty-counts M ws none) is-list);
+    }
 
 pub returns-in-Ok : need.returns-in-Ok
 returns-in-Ok g c =
@@ -85,7 +86,8 @@ returns-in-Ok g c =
     record {
       answer = accepted M ws (c .end-counts .last .words) (c .end-counts .result) sized counts list (all-fit M _ _ ws _ begun _ (c .in-Ok .ensures tt));
       listed = buffer M ws (c .end-counts .last .words) (c .end-counts .result) sized counts list;
-      determined = λ told. listed-back M (g .P·Part·met .lawful (c .args .part .now)) told ws (c .end-counts .last .words) (buffer M ws (c .end-counts .last .words) (c .end-counts .result) sized counts list) }
+      determined = λ told. listed-back M (g .P·Part·met .lawful (c .args .part .now)) told ws (c .end-counts .last .words) (buffer M ws (c .end-counts .last .words) (c .end-counts .result) sized counts list);
+    }
 
 pub returns-in-Err : need.returns-in-Err
 returns-in-Err g c =
@@ -99,4 +101,5 @@ returns-in-Err g c =
     record {
       answer = cut M ws (c .end-counts .last .words) (c .end-counts .result) sized counts list (not-all-fit M _ _ ws _ begun _ (c .in-Err .ensures tt));
       listed = buffer M ws (c .end-counts .last .words) (c .end-counts .result) sized counts list;
-      determined = λ told. listed-back M (g .P·Part·met .lawful (c .args .part .now)) told ws (c .end-counts .last .words) (buffer M ws (c .end-counts .last .words) (c .end-counts .result) sized counts list) }
+      determined = λ told. listed-back M (g .P·Part·met .lawful (c .args .part .now)) told ws (c .end-counts .last .words) (buffer M ws (c .end-counts .last .words) (c .end-counts .result) sized counts list);
+    }

@@ -14,20 +14,23 @@ pub returns-then-clash : need.returns-then-clash
 returns-then-clash c = record {
   kept = take-set-le (c .args .place) (c .args .words .now) (c .args .place) (c .heading .result) (omega arith);
   marks = λ ps before after long counted is.
-    let slice = pairs-slice (c .args .words .now) (c .args .place) (c .args .count) _ ps before after long counted is in
-    let clashes = sym (c .clash .ensures ps slice) ∙ c .if-clash .taken in
-    let v = c .heading .ensures ∙ count-marked ps (c .args .count) counted clashes in
-    rw v (pairs-marked (c .args .words .now) (c .args .place) (c .args .count) _ ps before after long counted is (countWord ps)) }
+      let slice = pairs-slice (c .args .words .now) (c .args .place) (c .args .count) _ ps before after long counted is in
+      let clashes = sym (c .clash .ensures ps slice) ∙ c .if-clash .taken in
+      let v = c .heading .ensures ∙ count-marked ps (c .args .count) counted clashes in
+      rw v (pairs-marked (c .args .words .now) (c .args .place) (c .args .count) _ ps before after long counted is (countWord ps));
+}
 
 pub returns-else-place-words : need.returns-else-place-words
 returns-else-place-words c = record {
   kept = refl;
   marks = λ ps before after long counted is.
-    let inside = pairs-inside (c .args .words .now) (c .args .place) (c .args .count) _ ps before after long counted is in
-    elim (c .else-place-words .came) [
-      else-place-words·by·then-place-words·then-count-words·else-clash w ↦
-        let slice = pairs-slice (c .args .words .now) (c .args .place) (c .args .count) _ ps before after long counted is in
-        let plain = count-plain ps (c .args .count) counted (sym (w .clash .ensures ps slice) ∙ w .if-clash .left) in
-        is ∙ ap (λ (v : ℕ). before ++ (v ∷ (pairWords ps ++ after))) plain
-    | else-place-words·by·then-place-words·else-count-words w ↦ absurd (omega (arith, inside .1, w .if-count-words .left))
-    | else-place-words·by·else-place-words w ↦ absurd (omega (arith, inside .0, w .if-place-words .left)) ] }
+      let inside = pairs-inside (c .args .words .now) (c .args .place) (c .args .count) _ ps before after long counted is in
+      elim (c .else-place-words .came) [
+        | else-place-words·by·then-place-words·then-count-words·else-clash w ↦
+            let slice = pairs-slice (c .args .words .now) (c .args .place) (c .args .count) _ ps before after long counted is in
+            let plain = count-plain ps (c .args .count) counted (sym (w .clash .ensures ps slice) ∙ w .if-clash .left) in
+            is ∙ ap (λ (v : ℕ). before ++ (v ∷ (pairWords ps ++ after))) plain
+        | else-place-words·by·then-place-words·else-count-words w ↦ absurd (omega (arith, inside .1, w .if-count-words .left))
+        | else-place-words·by·else-place-words w ↦ absurd (omega (arith, inside .0, w .if-place-words .left))
+      ];
+}

@@ -49,9 +49,9 @@ returns g c b is =
     let count = pair-count branch b is (c .unwrap-count .result) (sym (c .assignment-count .ensures) ∙ c .unwrap-count .ensures) in
     let size = is-length branch b (c .unwrap-length .result) is (sym (c .outcome-length .ensures) ∙ c .unwrap-length .ensures) in
     branch-written b (c .args .rec .now) (c .put .last .self) (c .put-2 .last .self) (c .put-pairs .last .rec) (c .put-3 .last .self) (c .put-row .last .rec)
-      (c .args .words .now) (c .put .last .words) (c .put-2 .last .words) (c .put-pairs .last .words) (c .mark-clash .last .words) (c .put-3 .last .words) (c .put-row .last .words)
-      (c .unwrap-weight .result) (c .end-place .result) (c .heading .result) (c .heading-2 .result)
-      weight (c .end-place .ensures) (c .heading .ensures ∙ ap (word 0) count) (c .heading-2 .ensures ∙ ap (word 0) size)
-      (c .put .ensures) (c .put-2 .ensures .wrote) (c .put-pairs .ensures b is)
-      (c .mark-clash .kept .words) (let P : ℕ → Type 0 = λ n. Marked (c .put-pairs .last .words) (c .end-place .result) n (c .mark-clash .last .words) in subst P count (c .mark-clash .ensures))
-      (c .put-3 .ensures .wrote) (c .put-row .ensures (b .outcome) (is-outcome branch b is))
+    (c .args .words .now) (c .put .last .words) (c .put-2 .last .words) (c .put-pairs .last .words) (c .mark-clash .last .words) (c .put-3 .last .words) (c .put-row .last .words)
+    (c .unwrap-weight .result) (c .end-place .result) (c .heading .result) (c .heading-2 .result)
+    weight (c .end-place .ensures) (c .heading .ensures ∙ ap (word 0) count) (c .heading-2 .ensures ∙ ap (word 0) size)
+    (c .put .ensures) (c .put-2 .ensures .wrote) (c .put-pairs .ensures b is)
+    (c .mark-clash .kept .words) (let P : ℕ → Type 0 = λ n. Marked (c .put-pairs .last .words) (c .end-place .result) n (c .mark-clash .last .words) in subst P count (c .mark-clash .ensures))
+    (c .put-3 .ensures .wrote) (c .put-row .ensures (b .outcome) (is-outcome branch b is))

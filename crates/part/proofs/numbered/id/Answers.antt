@@ -25,9 +25,10 @@ nth-first x xs ys n z e = rw (z, e) refl
 -- the number is that of the edge at the id
 number-found : (M : Meaning) → Lawful M → 0 < M .automaton .ceilings .edges → (id number : ℕ) (e : Edge (List ℕ)) → edgeHere M id ≡ Some e → nth (occupiedIds (edgeHere M) 0 (idsOf M)) number ≡ Some id → nth (occupied (edgeHere M) 0 (idsOf M)) number ≡ Some e → (Ok id ≡ idOf M number) × (edgeByNumber M number ≡ edgeById M id)
 number-found M law told id number e stands ids things =
-    let listed : nth (edgesHere M) number ≡ Some e = ap (λ (es : List (Edge (List ℕ))). nth es number) (edges-by-ids M law told) ∙ things in
-    ( sym (not-oversized M _ told ∙ ap (found NoEdge) ids),
-      (not-oversized M _ told ∙ ap (found NoEdge) listed) ∙ sym (not-oversized M _ told ∙ ap (found NoEdge) stands) )
+    let listed : nth (edgesHere M) number ≡ Some e = ap (λ (es : List (Edge (List ℕ))). nth es number) (edges-by-ids M law told) ∙ things in (
+      sym (not-oversized M _ told ∙ ap (found NoEdge) ids),
+      (not-oversized M _ told ∙ ap (found NoEdge) listed) ∙ sym (not-oversized M _ told ∙ ap (found NoEdge) stands),
+    )
 
 -- no edge has the number
 number-missing : (M : Meaning) → Lawful M → 0 < M .automaton .ceilings .edges → (number : ℕ) → nth (occupiedIds (edgeHere M) 0 (idsOf M)) number ≡ None → nth (occupied (edgeHere M) 0 (idsOf M)) number ≡ None → (Err NoEdge ≡ idOf M number) × (edgeByNumber M number ≡ Err NoEdge)
@@ -54,9 +55,10 @@ pub loop-id-again : need.loop-id-again
 loop-id-again g c =
     let M : Meaning = g .P·Part .meaning (c .args .part .now) in
     let was = c .in-Continue-id .was tt in
-    let h = next-hop M (c .loop-id .from) (c .in-Some .id) (cc) .1 in
-    ( sym (nth-later _ _ _ _ (c .if-left-eq0 .left) (h .ids)) ∙ c .loop-id .inv .0,
-      sym (nth-later _ _ _ _ (c .if-left-eq0 .left) (h .things)) ∙ c .loop-id .inv .1 )
+    let h = next-hop M (c .loop-id .from) (c .in-Some .id) (cc) .1 in (
+      sym (nth-later _ _ _ _ (c .if-left-eq0 .left) (h .ids)) ∙ c .loop-id .inv .0,
+      sym (nth-later _ _ _ _ (c .if-left-eq0 .left) (h .things)) ∙ c .loop-id .inv .1,
+    )
 
 pub returns-then-left-eq0 : need.returns-then-left-eq0
 returns-then-left-eq0 g c =
@@ -65,8 +67,8 @@ returns-then-left-eq0 g c =
     let hopped = next-hop M (c .loop-id .from) (c .in-Some .id) (cc) in
     let h = hopped .1 in
     let f = number-found M (g .P·Part·met .lawful (c .args .part .now)) (hopped .0) (c .in-Some .id) (c .args .number) (h .thing) (h .stands)
-              (sym (c .loop-id .inv .0) ∙ nth-first _ _ _ _ (c .if-left-eq0 .taken) (h .ids))
-              (sym (c .loop-id .inv .1) ∙ nth-first _ _ _ _ (c .if-left-eq0 .taken) (h .things)) in
+    (sym (c .loop-id .inv .0) ∙ nth-first _ _ _ _ (c .if-left-eq0 .taken) (h .ids))
+    (sym (c .loop-id .inv .1) ∙ nth-first _ _ _ _ (c .if-left-eq0 .taken) (h .things)) in
     record { answer = f .0; same = f .1 }
 
 pub returns : need.returns
@@ -75,6 +77,6 @@ returns g c =
     let was = c .in-Continue-id .was tt in
     let e = next-end M (c .loop-id .from) (cc) in
     let m = number-missing M (g .P·Part·met .lawful (c .args .part .now)) (e .0) (c .args .number)
-              (sym (c .loop-id .inv .0) ∙ ap (λ (ids : List ℕ). nth ids (c .loop-id .left)) (e .1 .1))
-              (sym (c .loop-id .inv .1) ∙ ap (λ (es : List (Edge (List ℕ))). nth es (c .loop-id .left)) (e .1 .0)) in
+    (sym (c .loop-id .inv .0) ∙ ap (λ (ids : List ℕ). nth ids (c .loop-id .left)) (e .1 .1))
+    (sym (c .loop-id .inv .1) ∙ ap (λ (es : List (Edge (List ℕ))). nth es (c .loop-id .left)) (e .1 .0)) in
     record { answer = m .0; same = m .1 }

@@ -68,8 +68,8 @@ returns-else-id-split t c =
     let f = shape-falls _ _ (loaded (c .args .model .now)) (c .args .number) _ (c .in-Both .ensures tt) in
     descended _ _ (loaded (c .args .model .now)) (c .args .number) (c .args .id) _ _ (c .in-Both .ensures tt)
     (λ k h. cond-above (c .args .id) (spanAt (vec-items (c .args .model .now .table)) (c .in-Both .first)) _ _ _ (omega (arith, c .slots-split .ensures))
-      (c .descend-else-id-split .ensures k (omega (arith, f .1 .0))
-      ∙ ap (λ n. descend (termAt (vec-items (c .args .model .now .words))) (spanAt (vec-items (c .args .model .now .table))) k (c .in-Both .second) (c .args .id - n)) (c .slots-split .ensures)))
+    (c .descend-else-id-split .ensures k (omega (arith, f .1 .0))
+    ∙ ap (λ n. descend (termAt (vec-items (c .args .model .now .words))) (spanAt (vec-items (c .args .model .now .table))) k (c .in-Both .second) (c .args .id - n)) (c .slots-split .ensures)))
 
 pub returns-in-Framed : need.returns-in-Framed
 returns-in-Framed t c =

@@ -11,9 +11,10 @@ use Rattle.lines.proofs.cursor.Cursor.+put_number.Needs.{then-number-ge10, els
 pub returns : need.returns
 returns t c =
     elim (c .if-number-ge10 .came) [
-      then-number-ge10 w ↦
-        put-as _ _ _ _ _ _ (sym (decimal-step (c .args .number) (w .if-number-ge10 .taken) (omega arith)))
-        (put-then _ _ _ _ _ _ _ _ (w .put-number .ensures) (put-from _ _ _ _ _ _ _ (w .self-is) (w .out-is) (c .put .ensures)))
-    | else-number-ge10 w ↦
-        put-as _ _ _ _ _ _ (ap (λ (n : ℕ). (48 + n) ∷ []) (mod-eq-of-lt (w .if-number-ge10 .left)) ∙ sym (decimal-digit (c .args .number) (w .if-number-ge10 .left)))
-        (put-from _ _ _ _ _ _ _ (w .self-is) (w .out-is) (c .put .ensures)) ]
+      | then-number-ge10 w ↦
+          put-as _ _ _ _ _ _ (sym (decimal-step (c .args .number) (w .if-number-ge10 .taken) (omega arith)))
+          (put-then _ _ _ _ _ _ _ _ (w .put-number .ensures) (put-from _ _ _ _ _ _ _ (w .self-is) (w .out-is) (c .put .ensures)))
+      | else-number-ge10 w ↦
+          put-as _ _ _ _ _ _ (ap (λ (n : ℕ). (48 + n) ∷ []) (mod-eq-of-lt (w .if-number-ge10 .left)) ∙ sym (decimal-digit (c .args .number) (w .if-number-ge10 .left)))
+          (put-from _ _ _ _ _ _ _ (w .self-is) (w .out-is) (c .put .ensures))
+    ]

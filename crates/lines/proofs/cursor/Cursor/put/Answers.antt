@@ -7,4 +7,5 @@ use Rattle.lines.proofs.cursor.Cursor.put.Needs as need
 pub returns-then-place-out : need.returns-then-place-out
 returns-then-place-out c = record {
   progress = put-more (c .args .self .now .full) (c .args .out .now) (c .args .self .now .place) (c .args .byte) (c .if-place-out .taken);
-  inside = λ _. rw length-set (omega (arith, c .if-place-out .taken)) }
+  inside = λ _. rw length-set (omega (arith, c .if-place-out .taken));
+}

@@ -28,6 +28,6 @@ returns c =
     let whole : List (Branch (List ℕ)) = branchesIn (c .branch-count-count .result) (c .branches-rest .result .now) in
     let P : ℕ → Type 0 = λ n. drop n whole ≡ branchesIn (c .branch-count-count .result - n) (c .loop-passed .rest .now) in
     let all : whole ≡ branchesIn (branchTotal (c .args .self .words .now)) (branchWordsIn (c .args .self .words .now)) =
-          ap (λ (n : ℕ). branchesIn n (c .branches-rest .result .now)) (c .branch-count-count .ensures) ∙ ap (branchesIn (branchTotal (c .args .self .words .now))) (c .branches-rest .ensures) in
+    ap (λ (n : ℕ). branchesIn n (c .branches-rest .result .now)) (c .branch-count-count .ensures) ∙ ap (branchesIn (branchTotal (c .args .self .words .now))) (c .branches-rest .ensures) in
     present branchesIn branchIn behindBranch (λ _. refl) (λ _ _. refl) whole (c .branch-count-count .result) (c .args .number) (c .loop-passed .rest .now) (omega arith) (subst P passed (c .loop-passed .inv))
     ∙ ap (drop (c .args .number)) all

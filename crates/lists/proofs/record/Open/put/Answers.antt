@@ -17,7 +17,13 @@ returns-then-end-words c =
       wrote = record {
         progress = put-more (o .full) (c .args .words .now) (o .mark .now .end) (c .args .word) below;
         kept = take-set (c .args .words .now) (o .mark .now .end) (c .args .word);
-        grown = omega arith; inside = λ _. rw length-set (omega (arith, below)); start = refl; count = refl; lent = refl } }
+        grown = omega arith;
+        inside = λ _. rw length-set (omega (arith, below));
+        start = refl;
+        count = refl;
+        lent = refl;
+      };
+    }
 
 pub returns-else-end-words : need.returns-else-end-words
 returns-else-end-words c =
@@ -30,4 +36,10 @@ returns-else-end-words c =
       wrote = record {
         progress = put-over (o .full) (c .args .words .now) (o .mark .now .end) (c .args .word) above;
         kept = refl;
-        grown = omega arith; inside = λ h. h; start = refl; count = refl; lent = refl } }
+        grown = omega arith;
+        inside = λ h. h;
+        start = refl;
+        count = refl;
+        lent = refl;
+      };
+    }

@@ -8,9 +8,10 @@ use Rattle.paths.proofs.Pushed.{pushed-more}
 use Rattle.paths.proofs.stack.Stack.extend.Needs as need
 
 pub loop-word-again : need.loop-word-again
-loop-word-again c =
-    (pushed-more payloadOf _ _ _ (c .args .words .now) (c .loop-word .word-index) _ (c .loop-word-test .taken) (c .push .ensures .words) (c .loop-word .inv .0) (c .payload .ensures)
-    , omega (arith, c .push .ensures .count, c .loop-word .inv .1))
+loop-word-again c = (
+  pushed-more payloadOf _ _ _ (c .args .words .now) (c .loop-word .word-index) _ (c .loop-word-test .taken) (c .push .ensures .words) (c .loop-word .inv .0) (c .payload .ensures),
+  omega (arith, c .push .ensures .count, c .loop-word .inv .1),
+)
 
 pub returns : need.returns
 returns c =

@@ -1,0 +1,5 @@
+pub mod Answering
+pub mod ChainsRight
+pub mod EdgesRight
+pub mod Law
+pub mod Standing
