@@ -25,7 +25,8 @@ fn is_repeat(kind: u32, further: Survey) -> bool
 fn is_overlong(kind: u32, own: Survey) -> bool
     ensures { λ r. ⌜ r ≡ isOverlong kind own ⌝ }
 {
-    kind == kinds::ASSIGNMENT && own.length > MOST_ASSIGNMENTS || kind == kinds::BRANCH && own.weight > MOST_TOTAL
+    kind == kinds::ASSIGNMENT && own.length > MOST_ASSIGNMENTS
+        || kind == kinds::BRANCH && own.weight > MOST_TOTAL
 }
 
 fn repeats(reader: &Reader<'_>, number: u32) -> bool

@@ -41,14 +41,17 @@ accepted-text M n counts words told back = sized (eqb (M .automaton .ceilings .e
   where
     es : List (Edge (List ℕ))
     es = edgesHere M
+
     absurdly : {X : Type 0} → (u : Unlisted) → _≡_ {A = Result Counts Unlisted} (Ok counts) (Err u) → X
     absurdly u e = let z : _≡_ {A = ℕ} 0 1 = cc in absurd (omega arith)
+
     fit : eqb (M .automaton .ceilings .edges) 0 ≡ false → (b : Bool) → leb (length (listWords (edgesHere M))) n ≡ b → textOf M n ≡ listText (edgesIn words)
     fit off true e =
         let positive : 0 < M .automaton .ceilings .edges = omega (arith, eqb-false (M .automaton .ceilings .edges) 0 off) in
         let same = back positive ∙ written-all n (edgesHere M) (leb-true (length (listWords (edgesHere M))) n e) in
         rw (off, e) (ap listText (sym same))
     fit off false e = absurdly (TooLong (counted n (edgesHere M))) (rw (off, e) at told)
+
     sized : (b : Bool) → eqb (M .automaton .ceilings .edges) 0 ≡ b → textOf M n ≡ listText (edgesIn words)
     sized true e = absurdly Oversized (rw e at told)
     sized false e = fit e (leb (length (listWords (edgesHere M))) n) refl

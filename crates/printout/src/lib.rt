@@ -10,6 +10,7 @@ ghost use Rattle.lists.specs.Reading.{edgesIn};
 ghost use Rattle.listed.specs.Listed.{edgeAt, branchAt};
 ghost use Rattle.printout.specs.declared.Unprinted.the-variants.{LongLine, NoMemory};
 ghost use Rattle.printout.specs.Printouts.{rows, eachFits, branchLine, branchFits, edgeLines, edgeFits, printoutOf, printable, Puts};
+
 mod text;
 
 use lines::head_line;
@@ -59,7 +60,12 @@ fn put_line(text: &mut Vec<u8>, line: &[u8], count: usize) -> Result<(), AllocEr
 }
 
 /// Puts the line of a branch behind a text.
-fn put_branch(text: &mut Vec<u8>, branch: ListedBranch<'_>, number: usize, line: &mut [u8]) -> Result<(), Unprinted>
+fn put_branch(
+    text: &mut Vec<u8>,
+    branch: ListedBranch<'_>,
+    number: usize,
+    line: &mut [u8],
+) -> Result<(), Unprinted>
     ensures { λ r. ⌜ Puts (branchLine number (branchAt (branch .entry))) (branchFits (length (now (line .entry))) number (branchAt (branch .entry))) (vec-items (now (text .entry))) (vec-items (now (text .exit))) r ⌝ }
 {
     let count = listed_branch_line(branch, number, line)?;
@@ -82,7 +88,12 @@ fn put_branches(text: &mut Vec<u8>, edge: ListedEdge<'_>, line: &mut [u8]) -> Re
 }
 
 /// Puts the line of an edge, and those of its branches, behind a text.
-fn put_edge(text: &mut Vec<u8>, edge: ListedEdge<'_>, number: usize, line: &mut [u8]) -> Result<(), Unprinted>
+fn put_edge(
+    text: &mut Vec<u8>,
+    edge: ListedEdge<'_>,
+    number: usize,
+    line: &mut [u8],
+) -> Result<(), Unprinted>
     ensures { λ r. ⌜ Puts (edgeLines number (edgeAt (edge .entry))) (edgeFits (length (now (line .entry))) number (edgeAt (edge .entry))) (vec-items (now (text .entry))) (vec-items (now (text .exit))) r ⌝ }
 {
     let count = listed_edge_line(edge, number, line)?;

@@ -4,6 +4,7 @@ ghost use Rattle.std.specs.Of.Vec.{vec-items};
 ghost use Rattle.std.specs.Vec.{made};
 ghost use Rattle.printout.specs.Texts.{textOf};
 ghost use Rattle.report.specs.Expanding.{listRoom, atStart, Expanded, Explains};
+
 mod opening;
 
 use behaviour::Behaviour;

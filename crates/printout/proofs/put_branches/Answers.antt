@@ -31,7 +31,7 @@ loop-next-again c =
     let later = branchesIn (b .later) (behindBranch (b .words .now)) in
     let put = c .in-Continue-put-branch .ensures tt in
     let fit : branchFits (length (c .args .line .now)) (c .loop-next .number) (branchAt b) ≡ true =
-        subst (λ n. branchFits n (c .loop-next .number) (branchAt b) ≡ true) (c .loop-next .kept .line) (put .0) in
+    subst (λ n. branchFits n (c .loop-next .number) (branchAt b) ≡ true) (c .loop-next .kept .line) (put .0) in
     let e = next-left branchesOn later (c .next-next .result) (c .next-next .ensures) in
     rw e (going-next branchLine (branchFits (length (c .args .line .now))) _ _ later (branchAt b) (c .loop-next .number) _ _ _
-      (c .loop-next .inv) (ap (left branchesOn) (c .in-Some .is)) (fit, put .1))
+    (c .loop-next .inv) (ap (left branchesOn) (c .in-Some .is)) (fit, put .1))

@@ -32,7 +32,7 @@ loop-next-again c =
     let later = edgesFrom (x .later) (behindEdge (x .words .now)) in
     let put = c .in-Continue-put-edge .ensures tt in
     let fit : edgeFits (length (c .args .line .now)) (c .loop-next .number) (edgeAt x) ≡ true =
-        subst (λ n. edgeFits n (c .loop-next .number) (edgeAt x) ≡ true) (c .loop-next .kept .line) (put .0) in
+    subst (λ n. edgeFits n (c .loop-next .number) (edgeAt x) ≡ true) (c .loop-next .kept .line) (put .0) in
     let e = next-left edgesOn later (c .next-next .result) (c .next-next .ensures) in
     rw e (going-next edgeLines (edgeFits (length (c .args .line .now))) _ _ later (edgeAt x) (c .loop-next .number) _ _ _
-      (c .loop-next .inv) (ap (left edgesOn) (c .in-Some .is)) (fit, put .1))
+    (c .loop-next .inv) (ap (left edgesOn) (c .in-Some .is)) (fit, put .1))

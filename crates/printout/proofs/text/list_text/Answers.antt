@@ -26,6 +26,6 @@ returns-in-Err c =
     let es = edgesIn (c .args .list .words .now) in
     let why = c .in-Err .why in
     let room : length (c .deref-mut .result .now) ≡ lineRoom =
-        ap length (c .deref-mut .ensures .value ∙ c .in-Continue-line .ensures tt .exact (λ y e. e)) ∙ length-replicate {A = ℕ} lineRoom 0 in
+    ap length (c .deref-mut .ensures .value ∙ c .in-Continue-line .ensures tt .exact (λ y e. e)) ∙ length-replicate {A = ℕ} lineRoom 0 in
     made-weaker (c .explain .result) (λ v. Explains why (vec-items v)) (λ v. vec-items v ≡ listText es)
     (λ v. explained es (length (c .deref-mut .result .now)) (vec-items (c .new-text .result)) (vec-items (c .put-list .last .text)) (vec-items v) why room (c .in-Err .ensures tt)) (c .explain .ensures)
