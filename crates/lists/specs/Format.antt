@@ -11,6 +11,10 @@ use Rattle.std.specs.shelf.Lists.{joined}
 use Rattle.words.specs.Edges.{Branch, Edge}
 use Rattle.words.specs.Words.{word}
 
+-- a payload is below this number
+abbrev pub payloads : ℕ
+payloads = 268435456
+
 abbrev pub header : ℕ → ℕ
 header edges = word 12 edges
 

@@ -7,6 +7,7 @@ use lib.ListN.{length, getD, take, drop}
 use Rattle.std.specs.shelf.Lists.{All}
 use Rattle.words.specs.Edges.{Branch, Edge}
 use Rattle.words.specs.Words.{payloadOf}
+use Rattle.lists.specs.Format.{payloads}
 
 abbrev pub first : List ℕ → ℕ
 first ws = getD ws 0 0
@@ -87,8 +88,8 @@ edgesIn ws = edgesFrom (payloadOf (first ws)) (drop 1 ws)
 
 -- an edge whose numbers have room in the payloads of a list
 pub record Countable (e : Edge (List ℕ)) : Type 0 where
-  pub guard : length (e .guard) < 268435456
-  pub deadline : length (e .deadline) < 268435456
-  pub branches : length (e .branches) < 268435456
-  pub assignments : All (λ b. length (b .assignments) < 268435456) (e .branches)
-  pub outcomes : All (λ b. length (b .outcome) < 268435456) (e .branches)
+  pub guard : length (e .guard) < payloads
+  pub deadline : length (e .deadline) < payloads
+  pub branches : length (e .branches) < payloads
+  pub assignments : All (λ b. length (b .assignments) < payloads) (e .branches)
+  pub outcomes : All (λ b. length (b .outcome) < payloads) (e .branches)

@@ -2,6 +2,7 @@
 ghost use Prim.Native.Nat.{_+_, _*_, _<_};
 ghost use mathlib.Core.Path.{_≡_};
 ghost use Rattle.words.specs.Words.{word};
+ghost use Rattle.lists.specs.Format.{payloads};
 
 /// Kinds of headings.
 pub(crate) const LIST: u32 = 12;
@@ -22,7 +23,7 @@ const PAYLOADS: u32 = 0x1000_0000;
 
 /// A word of a kind with a number as its payload.
 pub(crate) fn heading(kind: u32, number: usize) -> u32
-    requires { ⌜ kind < 16 ⌝ ∗ ⌜ number < 268435456 ⌝ }
+    requires { ⌜ kind < 16 ⌝ ∗ ⌜ number < payloads ⌝ }
     ensures { λ r. ⌜ r ≡ word kind number ⌝ }
 {
     kind * PAYLOADS + number as u32

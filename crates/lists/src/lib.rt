@@ -1,5 +1,6 @@
 // Lists of edges: written by records that undo themselves unless they are closed, and read once they are ended.
 ghost use Prim.Native.Nat.{_<_};
+ghost use Rattle.lists.specs.Format.{payloads};
 
 mod clash;
 mod ending;
@@ -23,7 +24,7 @@ pub use record::Open;
 pub struct Mark {
     end: usize,
     count: usize,
-    ghost counted: { count < 268435456 },
+    ghost counted: { count < payloads },
 }
 
 /// How many edges an ended list has, and how many words it takes. Only ending a list gives them.

@@ -11,6 +11,7 @@ ghost use Rattle.part.specs.Automata.{edgesHere};
 ghost use Rattle.part.specs.Questions.{edgeById};
 ghost use Rattle.lists.specs.Listing.{listingOf, bufferAfter, refusalOf, written};
 ghost use Rattle.lists.specs.Reading.{edgesIn};
+ghost use Rattle.lists.specs.Records.{mostListed};
 ghost use Rattle.lists.specs.Runs.{AddedIfRoom, AddedLeading};
 use crate::Counts;
 use crate::CountsDebug;
@@ -80,7 +81,7 @@ fn add_edges<P: Part>(part: &P, mark: &mut Mark, words: &mut [u32]) -> Result<()
 /// Adds the edge with an id to a list, or leaves the list as it was where there is no room.
 fn add_edge<P: Part>(part: &P, id: usize, mark: &mut Mark, words: &mut [u32]) -> Result<(), Refusal>
     requires edge { ⌜ isOk (edgeById (P·Part .meaning (now part)) id) ≡ true ⌝ }
-    requires few { ⌜ now mark .count < 268435455 ⌝ }
+    requires few { ⌜ now mark .count < mostListed ⌝ }
     requires room { ⌜ now mark .end ≤ length (now words) ⌝ }
     ensures { λ r. ⌜ ((e : Edge (List ℕ)) → edgeById (P·Part .meaning (now (part .entry))) id ≡ Ok e
         → AddedIfRoom e (now (mark .entry)) (now (words .entry)) r (now (mark .exit)) (now (words .exit))) ⌝ }

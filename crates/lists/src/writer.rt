@@ -8,7 +8,7 @@ ghost use Rattle.std.specs.shelf.Lists.{joined};
 ghost use Rattle.std.specs.declared.result.Result.the-variants.{Ok};
 ghost use Rattle.words.specs.Edges.{Branch, Edge};
 ghost use Rattle.part.specs.Questions.{edgeById, branchOf};
-ghost use Rattle.lists.specs.Format.{pairWords, branchWords, edgeWords};
+ghost use Rattle.lists.specs.Format.{pairWords, branchWords, edgeWords, payloads};
 ghost use Rattle.lists.specs.Records.{Wrote, Marked};
 ghost use Rattle.lists.specs.Rows.{rowOf, rowLengthOf, rowWordOf};
 use crate::Open;
@@ -78,7 +78,7 @@ fn put_pairs<P: Part>(part: &P, id: usize, branch: usize, rec: &mut Open<'_>, wo
 
 /// Marks the count of pairs at `place` if the pairs after it clash.
 fn mark_clash(words: &mut [u32], place: usize, count: usize)
-    requires { ⌜ count < 268435456 ⌝ }
+    requires { ⌜ count < payloads ⌝ }
     ensures { λ _. ⌜ Marked (now (words .entry)) place count (now (words .exit)) ⌝ }
 {
     if place < words.len()
