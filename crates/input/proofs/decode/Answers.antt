@@ -5,6 +5,6 @@ use Rattle.input.proofs.decode.Goals as goal
 
 pub loop-rest-preserved : goal.loop-rest-preserved
 loop-rest-preserved c =
-    let w = c.from-le-bytes.result in
-    let put = pushed {was = vec_items c.loop-rest.words} (w ∷ []) refl c.in-ok-push.was c.push.ensures.items in
-    word_more _ _ c.loop-rest.rest.now _ w (omega (arith, ltb-true, ltb-false)) c.from-le-bytes.ensures put c.loop-rest.invariant
+    let w = c.from_le_bytes.result in
+    let put = pushed {was = vec_items c.loop-rest.words} (w ∷ []) refl c.in_ok-push.was c.push.ensures.items in
+    word_more _ _ c.loop-rest.rest.now _ w (omega (arith, ltb-true, ltb-false)) c.from_le_bytes.ensures put c.loop-rest.invariant

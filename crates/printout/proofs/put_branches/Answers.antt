@@ -14,8 +14,8 @@ loop-next-init c =
     let e = first-left branches_on all _ c.branch-edge.result c.ok-next.result c.ok-next.ensures.value c.branch-edge.ensures in
     rw e (going_start branch_line (branch_fits room) all before)
 
-pub overflow-add-number : goal.overflow-add-number
-overflow-add-number c =
+pub overflow_add-number : goal.overflow_add-number
+overflow_add-number c =
     let ws = c.args.edge.words.now in
     let here = ap (λ o. length (left branches_on o)) c.in-Some.is in
     omega (arith, here, length_branches (branch_total ws) (branch_words_in ws), c.loop-next.invariant.counts)
@@ -24,7 +24,7 @@ pub loop-next-preserved : goal.loop-next-preserved
 loop-next-preserved c =
     let b = c.in-Some.branch in
     let later = branches_in b.later (behind_branch b.words.now) in
-    let put = c.in-ok-put-branch.ensures in
+    let put = c.in_ok-put-branch.ensures in
     let fit : branch_fits (length c.args.line.now) c.loop-next.number (branch_at b) ≡ true =
     subst (λ n. branch_fits n c.loop-next.number (branch_at b) ≡ true) c.loop-next.auto.line put.0 in
     let e = next_left branches_on later c.next-next.result c.next-next.ensures in

@@ -15,8 +15,8 @@ loop-next-init c =
     let e = first-left edges_on all _ c.edge.result c.ok-next.result c.ok-next.ensures.value c.edge.ensures in
     rw e (going_start edge_lines (edge_fits room) all before)
 
-pub overflow-add-number : goal.overflow-add-number
-overflow-add-number c =
+pub overflow_add-number : goal.overflow_add-number
+overflow_add-number c =
     let ws = c.args.list.words.now in
     let here = ap (λ o. length (left edges_on o)) c.in-Some.is in
     omega (arith, here, length_edges (payload_of (first ws)) (drop 1 ws), c.loop-next.invariant.counts)
@@ -25,7 +25,7 @@ pub loop-next-preserved : goal.loop-next-preserved
 loop-next-preserved c =
     let x = c.in-Some.found in
     let later = edges_from x.later (behind_edge x.words.now) in
-    let put = c.in-ok-put-edge.ensures in
+    let put = c.in_ok-put-edge.ensures in
     let fit : edge_fits (length c.args.line.now) c.loop-next.number (edge_at x) ≡ true =
     subst (λ n. edge_fits n c.loop-next.number (edge_at x) ≡ true) c.loop-next.auto.line put.0 in
     let e = next_left edges_on later c.next-next.result c.next-next.ensures in

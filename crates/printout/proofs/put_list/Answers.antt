@@ -6,8 +6,8 @@ use Rattle.printout.proofs.put_list.Goals as goal
 
 pub returns : goal.returns
 returns c =
-    let told = c.in-ok-count.ensures in
+    let told = c.in_ok-count.ensures in
     let stands = line_stands _ c.args.line.now _ _ told.answer told.out in
-    let mid = c.in-ok-put-line.ensures ∙ ap (λ t. vec_items c.args.text.now ++ (t ++ codes "\n")) stands.1 in
+    let mid = c.in_ok-put-line.ensures ∙ ap (λ t. vec_items c.args.text.now ++ (t ++ codes "\n")) stands.1 in
     let more = subst (λ n. Puts (rows edge_lines 0 (edges_in c.args.list.words.now)) (each_fits (edge_fits n) 0 (edges_in c.args.list.words.now)) (vec_items c.put-line.new.text) (vec_items c.put-edges.new.text) c.put-edges.result) c.head-line.auto.out c.put-edges.ensures in
     puts_after _ (rows edge_lines 0 (edges_in c.args.list.words.now)) _ _ (vec_items c.args.text.now) _ _ c.put-edges.result stands.0 mid more

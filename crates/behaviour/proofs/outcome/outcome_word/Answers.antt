@@ -8,8 +8,8 @@ returns-then-item-frames c =
     no_frame_item _ c.frames-frames.result.now c.args.item c.if-item-frames.true
     ∙ sym (ap (λ xs. slice_get xs c.args.item) (outcome_code c.args.branch.now c.in-At.head c.frames-frames.result.now _ c.in-At.is c.frames-frames.ensures c.if-is-beyond.ensures.value))
 
-pub overflow-add-result : goal.overflow-add-result
-overflow-add-result c =
+pub overflow_add-result : goal.overflow_add-result
+overflow_add-result c =
     let fs = c.frames-frames.result.now in
     let small = small_at fs fs (c.args.item - 1) refl (omega (arith, c.if-item-eq0-2.false))
     (frames_small c.args.branch.now c.in-At.head fs c.in-At.is c.frames-frames.ensures c.requires) in

@@ -14,8 +14,8 @@ ceilings-of-ceilings-requires c =
     let ws = vec_items c.args.words in
     subst Rising (sym (c.new-table.ensures ∙ c.deref.ensures.value)) (rising ws (tabled ws c.requires))
 
-pub invariant-of-result : goal.invariant-of-result
-invariant-of-result c =
+pub invariant_of-result : goal.invariant_of-result
+invariant_of-result c =
     let ws = vec_items c.args.words in
     let good = c.requires in
     let same = c.new-table.ensures ∙ c.deref.ensures.value in (

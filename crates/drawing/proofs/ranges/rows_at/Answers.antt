@@ -4,8 +4,8 @@ use Rattle.drawing.specs.Ranges.{from_at, rows_before}
 use Rattle.drawing.specs.Below.{below_more}
 use Rattle.drawing.proofs.ranges.rows_at.Goals as goal
 
-pub overflow-sub-result : goal.overflow-sub-result
+pub overflow_sub-result : goal.overflow_sub-result
 unfolding rows_before
-overflow-sub-result c =
+overflow_sub-result c =
     let ws = c.args.table.now.words.now in
     omega (arith, below_more (from_at ws) c.args.word (row_count ws))

@@ -5,21 +5,21 @@ use Rattle.lines.specs.Lines.{edge_line_in, branch_line_in, answered, out_after}
 use Rattle.lines.proofs.Spelled.{no_edge_branch_line, no_branch_line, branch_line}
 use Rattle.lines.proofs.report.branch_line.Goals as goal
 
-pub returns-in-err-edge : goal.returns-in-err-edge
-returns-in-err-edge c =
+pub returns-in_err-edge : goal.returns-in_err-edge
+returns-in_err-edge c =
     let p = err_from_is_err_and c.from-residual.result c.from-residual.ensures.1 in
-    let missing = c.in-err-edge.ensures in
+    let missing = c.in_err-edge.ensures in
     let line = no_edge_branch_line c.args.list.words.now c.args.number c.args.branch missing.past in
     record {
       answer = (p.1 ∙ ap Err (p.2 ∙ missing.told)) ∙ sym (ap (λ (l : Answer (List ℕ)). answered l (length c.args.out.now)) line);
       out = sym (ap (λ (l : Answer (List ℕ)). out_after l c.args.out.now) line);
     }
 
-pub returns-in-err-branch : goal.returns-in-err-branch
-returns-in-err-branch c =
-    let p = err_from_is_err_and c.from-residual-in-err-branch.result c.from-residual-in-err-branch.ensures.1 in
-    let missing = c.in-err-branch.ensures in
-    let line = no_branch_line c.args.list.words.now c.args.number c.args.branch _ _ c.in-ok-edge.ensures missing.past in
+pub returns-in_err-branch : goal.returns-in_err-branch
+returns-in_err-branch c =
+    let p = err_from_is_err_and c.from-residual-in_err-branch.result c.from-residual-in_err-branch.ensures.1 in
+    let missing = c.in_err-branch.ensures in
+    let line = no_branch_line c.args.list.words.now c.args.number c.args.branch _ _ c.in_ok-edge.ensures missing.past in
     record {
       answer = (p.1 ∙ ap Err (p.2 ∙ missing.told)) ∙ sym (ap (λ (l : Answer (List ℕ)). answered l (length c.args.out.now)) line);
       out = sym (ap (λ (l : Answer (List ℕ)). out_after l c.args.out.now) line);
@@ -27,7 +27,7 @@ returns-in-err-branch c =
 
 pub returns : goal.returns
 returns c =
-    let line = branch_line c.args.list.words.now c.args.number c.args.branch _ _ _ _ c.in-ok-edge.ensures c.in-ok-branch.ensures in
+    let line = branch_line c.args.list.words.now c.args.number c.args.branch _ _ _ _ c.in_ok-edge.ensures c.in_ok-branch.ensures in
     record {
       answer = c.listed-branch-line.ensures.answer ∙ sym (ap (λ (l : Answer (List ℕ)). answered l (length c.args.out.now)) line);
       out = c.listed-branch-line.ensures.out ∙ sym (ap (λ (l : Answer (List ℕ)). out_after l c.args.out.now) line);

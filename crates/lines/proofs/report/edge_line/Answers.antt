@@ -5,10 +5,10 @@ use Rattle.lines.specs.Lines.{edge_line_in, branch_line_in, answered, out_after}
 use Rattle.lines.proofs.Spelled.{no_edge_line, edge_line}
 use Rattle.lines.proofs.report.edge_line.Goals as goal
 
-pub returns-in-err-edge : goal.returns-in-err-edge
-returns-in-err-edge c =
+pub returns-in_err-edge : goal.returns-in_err-edge
+returns-in_err-edge c =
     let p = err_from_is_err_and c.from-residual.result c.from-residual.ensures.1 in
-    let missing = c.in-err-edge.ensures in
+    let missing = c.in_err-edge.ensures in
     let line = no_edge_line c.args.list.words.now c.args.number missing.past in
     record {
       answer = (p.1 ∙ ap Err (p.2 ∙ missing.told)) ∙ sym (ap (λ (l : Answer (List ℕ)). answered l (length c.args.out.now)) line);
@@ -17,7 +17,7 @@ returns-in-err-edge c =
 
 pub returns : goal.returns
 returns c =
-    let line = edge_line c.args.list.words.now c.args.number _ _ c.in-ok-edge.ensures in
+    let line = edge_line c.args.list.words.now c.args.number _ _ c.in_ok-edge.ensures in
     record {
       answer = c.listed-edge-line.ensures.answer ∙ sym (ap (λ (l : Answer (List ℕ)). answered l (length c.args.out.now)) line);
       out = c.listed-edge-line.ensures.out ∙ sym (ap (λ (l : Answer (List ℕ)). out_after l c.args.out.now) line);

@@ -27,7 +27,7 @@ pub add-edge-requires : goal.add-edge-requires
 add-edge-requires g c =
     let M : Meaning = g.P.Part.meaning c.args.part.now in
     let law = g.met.P.Part.lawful c.args.part.now in
-    let was = c.in-ok-id.was in
+    let was = c.in_ok-id.was in
     let h = (next_hop M c.loop-id.from c.in-Some.id (cc)).1 in
     let inv = c.loop-id.invariant in
     let fewer = done_fewer M c.loop-id.from c.args.mark.now c.loop-id.mark c.loop-id.mark c.args.words.now c.loop-id.words c.loop-id.words inv c.requires.room c.loop-id.auto.words h.thing _ h.things in
@@ -38,43 +38,43 @@ add-edge-requires g c =
       room = inv.added.inside c.requires.room;
     }
 
-pub returns-in-err-add-edge : goal.returns-in-err-add-edge
-returns-in-err-add-edge g c =
+pub returns-in_err-add-edge : goal.returns-in_err-add-edge
+returns-in_err-add-edge g c =
     let M : Meaning = g.P.Part.meaning c.args.part.now in
-    let was = c.in-ok-id.was in
+    let was = c.in_ok-id.was in
     let h = (next_hop M c.loop-id.from c.in-Some.id (cc)).1 in
-    let p = err_from_is_err_and c.from-residual-in-err-add-edge.result c.from-residual-in-err-add-edge.ensures.1 in
+    let p = err_from_is_err_and c.from-residual-in_err-add-edge.result c.from-residual-in_err-add-edge.ensures.1 in
     rw (p.1, p.2)
     (no_room M c.loop-id.from c.args.mark.now c.loop-id.mark c.add-edge.new.mark c.args.words.now c.loop-id.words c.add-edge.new.words c.loop-id.invariant c.requires.room c.loop-id.auto.words h.thing _ h.things _
-    (c.in-err-add-edge.ensures h.thing (by_id M c.in-Some.id h.thing c.requires.sized h.stands)))
+    (c.in_err-add-edge.ensures h.thing (by_id M c.in-Some.id h.thing c.requires.sized h.stands)))
 
-pub overflow-add-from : goal.overflow-add-from
-overflow-add-from g c =
+pub overflow_add-from : goal.overflow_add-from
+overflow_add-from g c =
     let M : Meaning = g.P.Part.meaning c.args.part.now in
     let law = g.met.P.Part.lawful c.args.part.now in
-    let was = c.in-ok-id.was in
+    let was = c.in_ok-id.was in
     let h = (next_hop M c.loop-id.from c.in-Some.id (cc)).1 in
     omega (arith, law.ceilings.edges, h.high)
 
 pub loop-id-smaller : goal.loop-id-smaller
 loop-id-smaller g c =
     let M : Meaning = g.P.Part.meaning c.args.part.now in
-    let was = c.in-ok-id.was in
+    let was = c.in_ok-id.was in
     let h = (next_hop M c.loop-id.from c.in-Some.id (cc)).1 in
     omega (arith, h.low, h.high)
 
 pub loop-id-preserved : goal.loop-id-preserved
 loop-id-preserved g c =
     let M : Meaning = g.P.Part.meaning c.args.part.now in
-    let was = c.in-ok-id.was in
+    let was = c.in_ok-id.was in
     let h = (next_hop M c.loop-id.from c.in-Some.id (cc)).1 in
     let more = one_more M c.loop-id.from c.args.mark.now c.loop-id.mark c.add-edge.new.mark c.args.words.now c.loop-id.words c.add-edge.new.words c.loop-id.invariant c.requires.room c.loop-id.auto.words h.thing _ h.things
-    (c.in-ok-add-edge.ensures h.thing (by_id M c.in-Some.id h.thing c.requires.sized h.stands)) in
+    (c.in_ok-add-edge.ensures h.thing (by_id M c.in-Some.id h.thing c.requires.sized h.stands)) in
     record { done = more.0; split = more.1.0; added = more.1.1 }
 
 pub returns : goal.returns
 returns g c =
     let M : Meaning = g.P.Part.meaning c.args.part.now in
-    let was = c.in-ok-id.was in
+    let was = c.in_ok-id.was in
     let e = next_end M c.loop-id.from (cc) in
     all_added M c.loop-id.from c.args.mark.now c.loop-id.mark c.loop-id.mark c.args.words.now c.loop-id.words c.loop-id.words c.loop-id.invariant c.requires.room c.loop-id.auto.words e.1.0

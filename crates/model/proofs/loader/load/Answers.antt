@@ -8,8 +8,8 @@ use Rattle.model.proofs.Facts.{headed, counted, tabled, bodied, worded, unrepeat
 use Rattle.model.proofs.Judging.{single_verdict}
 use Rattle.model.proofs.loader.load.Goals as goal
 
-pub invariant-of-result : goal.invariant-of-result
-invariant-of-result c =
+pub invariant_of-result : goal.invariant_of-result
+invariant_of-result c =
     let ws = vec_items c.args.words in
     let room = length (vec_items c.args.table) in
     let t = vec_items c.fill-table.new.table in

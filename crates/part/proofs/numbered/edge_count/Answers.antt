@@ -10,7 +10,7 @@ use Rattle.part.proofs.numbered.edge_count.Given as given
 
 hopped : (g : given.Over) (c : goal.In-Some g) → Hop (edge_here (g.P.Part.meaning c.args.part.now)) c.loop-id.from (ids_of (g.P.Part.meaning c.args.part.now)) c.in-Some.id
 hopped g c =
-    let was = c.in-ok-id.was in
+    let was = c.in_ok-id.was in
     (next_hop (g.P.Part.meaning c.args.part.now) c.loop-id.from c.in-Some.id (cc)).1
 
 small : (g : given.Over) (c : goal.In-Some g) → ids_of (g.P.Part.meaning c.args.part.now) < 268435455
@@ -18,13 +18,13 @@ small g c =
     let law = g.met.P.Part.lawful c.args.part.now in
     omega (arith, law.ceilings.edges)
 
-pub overflow-add-count : goal.overflow-add-count
-overflow-add-count g c =
+pub overflow_add-count : goal.overflow_add-count
+overflow_add-count g c =
     let M : Meaning = g.P.Part.meaning c.args.part.now in
     omega (arith, small g c, c.loop-id.invariant, length-occupied (edge_here M) 0 (ids_of M))
 
-pub overflow-add-from : goal.overflow-add-from
-overflow-add-from g c = let h = hopped g c in omega (arith, small g c, h.high)
+pub overflow_add-from : goal.overflow_add-from
+overflow_add-from g c = let h = hopped g c in omega (arith, small g c, h.high)
 
 pub loop-id-smaller : goal.loop-id-smaller
 loop-id-smaller g c = let h = hopped g c in omega (arith, h.low, h.high)
@@ -35,7 +35,7 @@ loop-id-preserved g c = let h = hopped g c in omega (arith, c.loop-id.invariant,
 pub returns : goal.returns
 returns g c =
     let M : Meaning = g.P.Part.meaning c.args.part.now in
-    let was = c.in-ok-id.was in
+    let was = c.in_ok-id.was in
     let e = next_end M c.loop-id.from (cc) in
     let n : c.loop-id.count ≡ length (edges_here M) = omega (arith, c.loop-id.invariant, ap length e.1.0, ap length (edges_by_ids M (g.met.P.Part.lawful c.args.part.now) e.0)) in
     ap Ok n ∙ sym (not_oversized M (Ok (length (edges_here M))) e.0)

@@ -31,25 +31,25 @@ number-missing M law told number ids things =
     let listed : slice_get (edges_here M) number ≡ None = ap (λ (es : List (Edge (List ℕ))). slice_get es number) (edges_by_ids M law told) ∙ things in
     (sym (not_oversized M _ told ∙ ap (found NoEdge) ids), not_oversized M _ told ∙ ap (found NoEdge) listed)
 
-pub overflow-add-from : goal.overflow-add-from
-overflow-add-from g c =
+pub overflow_add-from : goal.overflow_add-from
+overflow_add-from g c =
     let M : Meaning = g.P.Part.meaning c.args.part.now in
     let law = g.met.P.Part.lawful c.args.part.now in
-    let was = c.in-ok-id.was in
+    let was = c.in_ok-id.was in
     let h = (next_hop M c.loop-id.from c.in-Some.id (cc)).1 in
     omega (arith, law.ceilings.edges, h.high)
 
 pub loop-id-smaller : goal.loop-id-smaller
 loop-id-smaller g c =
     let M : Meaning = g.P.Part.meaning c.args.part.now in
-    let was = c.in-ok-id.was in
+    let was = c.in_ok-id.was in
     let h = (next_hop M c.loop-id.from c.in-Some.id (cc)).1 in
     omega (arith, h.low, h.high)
 
 pub loop-id-preserved : goal.loop-id-preserved
 loop-id-preserved g c =
     let M : Meaning = g.P.Part.meaning c.args.part.now in
-    let was = c.in-ok-id.was in
+    let was = c.in_ok-id.was in
     let h = (next_hop M c.loop-id.from c.in-Some.id (cc)).1 in (
       sym (nth-later _ _ _ _ c.if-left-eq0.false h.ids) ∙ c.loop-id.invariant.0,
       sym (nth-later _ _ _ _ c.if-left-eq0.false h.things) ∙ c.loop-id.invariant.1,
@@ -58,7 +58,7 @@ loop-id-preserved g c =
 pub returns-then-left-eq0 : goal.returns-then-left-eq0
 returns-then-left-eq0 g c =
     let M : Meaning = g.P.Part.meaning c.args.part.now in
-    let was = c.in-ok-id.was in
+    let was = c.in_ok-id.was in
     let hopped = next_hop M c.loop-id.from c.in-Some.id (cc) in
     let h = hopped.1 in
     let f = number-found M (g.met.P.Part.lawful c.args.part.now) hopped.0 c.in-Some.id c.args.number h.thing h.stands
@@ -69,7 +69,7 @@ returns-then-left-eq0 g c =
 pub returns : goal.returns
 returns g c =
     let M : Meaning = g.P.Part.meaning c.args.part.now in
-    let was = c.in-ok-id.was in
+    let was = c.in_ok-id.was in
     let e = next_end M c.loop-id.from (cc) in
     let m = number-missing M (g.met.P.Part.lawful c.args.part.now) e.0 c.args.number
     (sym c.loop-id.invariant.0 ∙ ap (λ (ids : List ℕ). slice_get ids c.loop-id.left) e.1.1)

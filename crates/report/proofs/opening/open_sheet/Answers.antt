@@ -3,12 +3,12 @@ use Rattle.report.proofs.opening.open_sheet.Goals as goal
 
 pub returns-in-Ok : goal.returns-in-Ok
 returns-in-Ok c =
-    let spelt = c.in-ok-words.ensures in
-    let room = room_lent c.args.bytes.now _ _ _ spelt c.deref.ensures.value c.in-ok-table.ensures in
-    opened c.args.bytes.now _ _ _ c.in-ok-check-bytes.ensures spelt room c.in-Ok.ensures.loading
+    let spelt = c.in_ok-words.ensures in
+    let room = room_lent c.args.bytes.now _ _ _ spelt c.deref.ensures.value c.in_ok-table.ensures in
+    opened c.args.bytes.now _ _ _ c.in_ok-check-bytes.ensures spelt room c.in-Ok.ensures.loading
 
 pub returns-in-Err : goal.returns-in-Err
 returns-in-Err c =
-    let spelt = c.in-ok-words.ensures in
-    let room = room_lent c.args.bytes.now _ _ _ spelt c.deref.ensures.value c.in-ok-table.ensures in
-    unopened c.args.bytes.now _ _ _ c.in-ok-check-bytes.ensures spelt room c.in-Err.ensures.loading.wrong
+    let spelt = c.in_ok-words.ensures in
+    let room = room_lent c.args.bytes.now _ _ _ spelt c.deref.ensures.value c.in_ok-table.ensures in
+    unopened c.args.bytes.now _ _ _ c.in_ok-check-bytes.ensures spelt room c.in-Err.ensures.loading.wrong

@@ -15,8 +15,8 @@ start-code ws rs code r same r_is code_is =
     let first : payload_of r ≡ body ws 0 = omega (arith, ap (λ xs. body xs 0) same) in
     code_is ∙ ap (λ n. record_word n ∷ []) first
 
-pub invariant-of-result : goal.invariant-of-result
-invariant-of-result c =
+pub invariant_of-result : goal.invariant_of-result
+invariant_of-result c =
     let ws = vec_items c.args.model.words in (
       ap (is_place ws) (start-code ws _ _ _ c.reader.ensures c.body.ensures c.start-place.ensures) ∙ lawful_start ws _ (loaded c.args.model),
       (c.ceilings-in-ceilings.ensures, tt),

@@ -5,5 +5,5 @@ use Rattle.behaviour.proofs.questions.BehaviourPart.assignment_count.Goals as go
 
 pub returns : goal.returns
 returns c =
-    ap (λ n. Ok n) (chain_length _ _ c.reader.ensures c.in-ok-found.found.assignments _ _ c.survey.ensures)
-    ∙ sym (ap assignment_count_of c.in-ok-found.ensures.answer)
+    ap (λ n. Ok n) (chain_length _ _ c.reader.ensures c.in_ok-found.found.assignments _ _ c.survey.ensures)
+    ∙ sym (ap assignment_count_of c.in_ok-found.ensures.answer)

@@ -9,26 +9,26 @@ use Rattle.behaviour.proofs.questions.BehaviourPart.deadline_word.Goals as goal
 
 pub returns-then-item-eq0 : goal.returns-then-item-eq0
 returns-then-item-eq0 c =
-    first_word (sheet_of c.args.self.now) _ (words_of c.in-ok-edge.edge.path.urgents) _ c.args.item c.reader.ensures c.urge.ensures c.if-item-eq0.true
-    ∙ sym (ap (λ x. deadline_word_of x c.args.item) c.in-ok-edge.ensures.answer)
+    first_word (sheet_of c.args.self.now) _ (words_of c.in_ok-edge.edge.path.urgents) _ c.args.item c.reader.ensures c.urge.ensures c.if-item-eq0.true
+    ∙ sym (ap (λ x. deadline_word_of x c.args.item) c.in_ok-edge.ensures.answer)
 
 pub returns-then-at-conditions : goal.returns-then-at-conditions
 returns-then-at-conditions c =
-    no_reason (constant (urge (sheet_of c.args.self.now))) (words_of c.in-ok-edge.edge.path.urgents) c.words-conditions.result.now c.words-conditions.ensures c.args.item c.if-item-eq0.false c.if-at-conditions.true
-    ∙ sym (ap (λ x. deadline_word_of x c.args.item) c.in-ok-edge.ensures.answer)
+    no_reason (constant (urge (sheet_of c.args.self.now))) (words_of c.in_ok-edge.edge.path.urgents) c.words-conditions.result.now c.words-conditions.ensures c.args.item c.if-item-eq0.false c.if-at-conditions.true
+    ∙ sym (ap (λ x. deadline_word_of x c.args.item) c.in_ok-edge.ensures.answer)
 
 pub returns-then-item-eq0-2 : goal.returns-then-item-eq0-2
 returns-then-item-eq0-2 c =
-    joining (constant (urge (sheet_of c.args.self.now))) (words_of c.in-ok-edge.edge.path.urgents) c.words-conditions.result.now c.words-conditions.ensures c.args.item c.if-item-eq0.false c.if-at-conditions.false c.if-item-eq0-2.true
-    ∙ sym (ap (λ x. deadline_word_of x c.args.item) c.in-ok-edge.ensures.answer)
+    joining (constant (urge (sheet_of c.args.self.now))) (words_of c.in_ok-edge.edge.path.urgents) c.words-conditions.result.now c.words-conditions.ensures c.args.item c.if-item-eq0.false c.if-at-conditions.false c.if-item-eq0-2.true
+    ∙ sym (ap (λ x. deadline_word_of x c.args.item) c.in_ok-edge.ensures.answer)
 
-pub overflow-add-result : goal.overflow-add-result
-overflow-add-result c =
+pub overflow_add-result : goal.overflow_add-result
+overflow_add-result c =
     let small = small_at c.words-conditions.result.now _ ((c.args.item - 1) / 2) c.words-conditions.ensures c.if-at-conditions.false
-    (conditions_small c.args.self.now c.args.id c.in-ok-edge.edge c.in-ok-edge.ensures) in
+    (conditions_small c.args.self.now c.args.id c.in_ok-edge.edge c.in_ok-edge.ensures) in
     omega (arith, small)
 
 pub returns : goal.returns
 returns c =
-    reasoning (constant (urge (sheet_of c.args.self.now))) (words_of c.in-ok-edge.edge.path.urgents) c.words-conditions.result.now c.words-conditions.ensures c.args.item c.if-item-eq0.false c.if-at-conditions.false c.if-item-eq0-2.false
-    ∙ sym (ap (λ x. deadline_word_of x c.args.item) c.in-ok-edge.ensures.answer)
+    reasoning (constant (urge (sheet_of c.args.self.now))) (words_of c.in_ok-edge.edge.path.urgents) c.words-conditions.result.now c.words-conditions.ensures c.args.item c.if-item-eq0.false c.if-at-conditions.false c.if-item-eq0-2.false
+    ∙ sym (ap (λ x. deadline_word_of x c.args.item) c.in_ok-edge.ensures.answer)

@@ -7,4 +7,4 @@ use Rattle.behaviour.proofs.questions.BehaviourPart.guard_length.Goals as goal
 pub returns : goal.returns
 returns c =
     ap (λ xs. Ok (length xs)) c.words.ensures
-    ∙ (ap (λ n. Ok n) (sym (length-reverse (words_of c.in-ok-edge.edge.path.whens))) ∙ sym (ap guard_length_of c.in-ok-edge.ensures.answer))
+    ∙ (ap (λ n. Ok n) (sym (length-reverse (words_of c.in_ok-edge.edge.path.whens))) ∙ sym (ap guard_length_of c.in_ok-edge.ensures.answer))

@@ -3,8 +3,8 @@ use Rattle.drawing.specs.Layout.{row_count, row_at}
 use Rattle.drawing.proofs.Answered.{row_inside, row_here, no_row, edge_here_lem}
 use Rattle.drawing.proofs.drawing.Drawing.row_at.Goals as goal
 
-pub overflow-add-self : goal.overflow-add-self
-overflow-add-self c = omega (arith, row_inside c.args.self.now c.args.id)
+pub overflow_add-self : goal.overflow_add-self
+overflow_add-self c = omega (arith, row_inside c.args.self.now c.args.id)
 
 pub row-requires : goal.row-requires
 row-requires c = omega (arith, row_inside c.args.self.now c.args.id, ap row_count c.table.ensures)

@@ -2,8 +2,8 @@ use Rattle.layers.specs.Entries.{entries_of}
 use Rattle.layers.proofs.Additions.{observed-pushed}
 use Rattle.layers.proofs.extension.Extension.add.Goals as goal
 
-pub invariant-of-self : goal.invariant-of-self
-invariant-of-self c = (
+pub invariant_of-self : goal.invariant_of-self
+invariant_of-self c = (
   observed-pushed (entries_of c.args.self.now.actions) (entries_of c.push.new.self) c.args.action c.push.ensures.after c.args.self.now.seen c.if-not-is-observable.ensures,
   tt,
 )

@@ -27,7 +27,7 @@ pub loop-step-preserved : goal.loop-step-preserved
 loop-step-preserved c =
     let ws = c.args.self.now.words.now in
     let three = ap (λ x. x.three) c.record-link.ensures in
-    rw three (sym (nth_next ws (records ws) c.args.i c.loop-step.-step c.loop-step.link (omega arith) (omega arith) c.if-link.false) ∙ c.loop-step.invariant)
+    rw three (sym (nth_next ws (records ws) c.args.i c.loop-step._step c.loop-step.link (omega arith) (omega arith) c.if-link.false) ∙ c.loop-step.invariant)
 
 pub returns-then-link-2 : goal.returns-then-link-2
 returns-then-link-2 c = sym (nth_none _ _ _ _ c.if-link-2.true) ∙ c.loop-step.invariant
@@ -35,6 +35,6 @@ returns-then-link-2 c = sym (nth_none _ _ _ _ c.if-link-2.true) ∙ c.loop-step.
 pub returns-else-link-2 : goal.returns-else-link-2
 returns-else-link-2 c =
     let ws = c.args.self.now.words.now in
-    let here : c.loop-step.-step ≡ c.args.i = omega arith in
+    let here : c.loop-step._step ≡ c.args.i = omega arith in
     sym (nth_here ws (records ws) c.args.i c.loop-step.link (omega arith) c.if-link-2.false)
     ∙ (rw here at c.loop-step.invariant)

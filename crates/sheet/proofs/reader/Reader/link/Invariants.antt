@@ -7,5 +7,5 @@ use Rattle.sheet.proofs.reader.Reader.link.Given as goal
 
 abbrev pub invariant-loop-step : goal.invariant-loop-step
 invariant-loop-step l =
-    slice_get (rest l.self.words.now (records l.self.words.now) l.-step l.link) (l.i - l.-step)
+    slice_get (rest l.self.words.now (records l.self.words.now) l._step l.link) (l.i - l._step)
     ≡ slice_get (chain l.self.words.now l.first) l.i

@@ -18,5 +18,5 @@ loop-step-preserved c =
 
 pub returns : goal.returns
 returns c =
-    let over : records c.args.self.now.words.now ≤ c.loop-step.-step = omega arith in
+    let over : records c.args.self.now.words.now ≤ c.loop-step._step = omega arith in
     seen_all _ _ _ _ _ _ _ _ (run_out _ _ _ _ over) c.loop-step.invariant
