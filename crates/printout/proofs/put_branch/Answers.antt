@@ -6,4 +6,4 @@ pub returns : goal.returns
 returns c =
     let told = c.in_ok-count.ensures in
     let stands = line_stands _ c.args.line.now _ _ told.answer told.out in
-    (stands.0, c.in_ok-put-line.ensures ∙ ap (λ t. vec_items c.args.text.now ++ (t ++ codes "\n")) stands.1)
+    (stands.0, c.in_ok-put_line.ensures ∙ ap (λ t. vec_items c.args.text.now ++ (t ++ codes "\n")) stands.1)

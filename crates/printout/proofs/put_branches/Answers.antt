@@ -24,7 +24,7 @@ pub loop-next-preserved : goal.loop-next-preserved
 loop-next-preserved c =
     let b = c.in-Some.branch in
     let later = branches_in b.later (behind_branch b.words.now) in
-    let put = c.in_ok-put-branch.ensures in
+    let put = c.in_ok-put_branch.ensures in
     let fit : branch_fits (length c.args.line.now) c.loop-next.number (branch_at b) ≡ true =
     subst (λ n. branch_fits n c.loop-next.number (branch_at b) ≡ true) c.loop-next.auto.line put.0 in
     let e = next_left branches_on later c.next-next.result c.next-next.ensures in

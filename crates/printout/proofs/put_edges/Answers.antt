@@ -25,7 +25,7 @@ pub loop-next-preserved : goal.loop-next-preserved
 loop-next-preserved c =
     let x = c.in-Some.found in
     let later = edges_from x.later (behind_edge x.words.now) in
-    let put = c.in_ok-put-edge.ensures in
+    let put = c.in_ok-put_edge.ensures in
     let fit : edge_fits (length c.args.line.now) c.loop-next.number (edge_at x) ≡ true =
     subst (λ n. edge_fits n c.loop-next.number (edge_at x) ≡ true) c.loop-next.auto.line put.0 in
     let e = next_left edges_on later c.next-next.result c.next-next.ensures in

@@ -6,5 +6,5 @@ put-twice a b c line n m b_is c-is m_is = c-is ∙ (ap (λ x. x ++ (10 ∷ [])) 
 
 pub returns : goal.returns
 returns c =
-    put-twice _ _ _ c.args.line.now c.args.count (c.args.count - 0) c.in_ok-extend-from-slice.ensures.items
+    put-twice _ _ _ c.args.line.now c.args.count (c.args.count - 0) c.in_ok-extend_from_slice.ensures.items
     c.in_ok-push.ensures.items (omega arith)

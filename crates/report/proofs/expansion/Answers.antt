@@ -11,10 +11,10 @@ pub returns-in-Ok : goal.returns-in-Ok
 returns-in-Ok c =
     let opened = c.in-Ok.ensures in
     let t = vec_items c.in-Ok.model.table in
-    IfOk-weaker c.start-text.result (λ v. vec_items v ≡ text_of (at_start (vec_items c.in-Ok.model.words) t) list_room)
+    IfOk-weaker c.start_text.result (λ v. vec_items v ≡ text_of (at_start (vec_items c.in-Ok.model.words) t) list_room)
     (λ v. Expanded c.args.bytes.now (vec_items v))
     (λ v e. listed t opened.right opened.table (e ∙ ap (λ ws. text_of (at_start ws t) list_room) opened.words))
-    c.start-text.ensures
+    c.start_text.ensures
 
 explained : (bytes text : List ℕ) (why : Unopened) → Opening bytes (Err why) → Explains why text → Expanded bytes text
 explained bytes text (Faulty f) wrong line = refused f wrong line

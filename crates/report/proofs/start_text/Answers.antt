@@ -8,7 +8,7 @@ use Rattle.report.proofs.start_text.Goals as goal
 pub returns : goal.returns
 returns c =
     let made_start = c.new-behaviour.ensures in
-    IfOk-weaker c.part-text.result (λ v. vec_items v ≡ text_of (meaning_of c.new-behaviour.result) list_room)
+    IfOk-weaker c.part_text.result (λ v. vec_items v ≡ text_of (meaning_of c.new-behaviour.result) list_room)
     (λ v. vec_items v ≡ text_of (at_start (vec_items c.args.model.words) (vec_items c.args.model.table)) list_room)
     (λ v e. e ∙ ap (λ M. text_of M list_room) made_start)
-    c.part-text.ensures
+    c.part_text.ensures

@@ -18,35 +18,35 @@ finish ws n t known settled ends shallow (Ok u) narrow =
     ((ends, (shallow, narrow)), all_filled (down_in ws n) t known n (λ k out. down_outside ws n k out) settled shallow narrow)
 finish ws n t known settled ends shallow (Err f) wide = (inr (ends, inr (shallow, wide)), tt)
 
-pub returns-in-err-check-recursion : goal.returns-in-err-check-recursion
-returns-in-err-check-recursion c =
+pub returns-in_err-check_recursion : goal.returns-in_err-check_recursion
+returns-in_err-check_recursion c =
     let ws = c.args.reader.now.words.now in
-    let p = err_from_is_err_and c.from-residual.result c.from-residual.ensures.1 in
+    let p = err_from_is_err_and c.from_residual.result c.from_residual.ensures.1 in
     let count : c.min-count.result ≡ in_reach ws c.args.table.now = omega arith in
     record {
-      verdict = rw (p.1, p.2, ← count) (inl c.in-err-check-recursion.ensures);
+      verdict = rw (p.1, p.2, ← count) (inl c.in_err-check_recursion.ensures);
       filled = rw p.1 tt;
       sized = every_behaviour_sized ws (length c.args.table.now);
     }
 
-pub returns-in-err-check-depths : goal.returns-in-err-check-depths
-returns-in-err-check-depths c =
+pub returns-in_err-check_depths : goal.returns-in_err-check_depths
+returns-in_err-check_depths c =
     let ws = c.args.reader.now.words.now in
-    let p = err_from_is_err_and c.from-residual-in-err-check-depths.result c.from-residual-in-err-check-depths.ensures.1 in
+    let p = err_from_is_err_and c.from_residual-in_err-check_depths.result c.from_residual-in_err-check_depths.ensures.1 in
     let count : c.min-count.result ≡ in_reach ws c.args.table.now = omega arith in
     record {
-      verdict = rw (p.1, p.2, ← count) (inr (c.in-ok-check-recursion.ensures, inl c.in-err-check-depths.ensures));
+      verdict = rw (p.1, p.2, ← count) (inr (c.in_ok-check_recursion.ensures, inl c.in_err-check_depths.ensures));
       filled = rw p.1 tt;
       sized = every_behaviour_sized ws (length c.args.table.now);
     }
 
-pub check-spans-requires : goal.check-spans-requires
+pub check_spans-requires : goal.check_spans-requires
 unfolding depth_check
-check-spans-requires c =
+check_spans-requires c =
     record {
       room = omega arith;
       known = c.settle.ensures.known;
-      shallow = c.in-ok-check-depths.ensures;
+      shallow = c.in_ok-check_depths.ensures;
       settled = c.settle.ensures.settled;
     }
 
@@ -54,11 +54,11 @@ pub returns : goal.returns
 returns c =
     let ws = c.args.reader.now.words.now in
     let t = c.settle.new.table in
-    let r = c.check-spans.result in
+    let r = c.check_spans.result in
     let count : c.min-count.result ≡ in_reach ws c.args.table.now = omega arith in
     let all =
     finish ws c.min-count.result t c.settle.ensures.known c.settle.ensures.settled
-    c.in-ok-check-recursion.ensures c.in-ok-check-depths.ensures r c.check-spans.ensures in
+    c.in_ok-check_recursion.ensures c.in_ok-check_depths.ensures r c.check_spans.ensures in
     record {
       verdict = subst (λ m. descent_check ws m r) count all.0;
       filled = subst (λ m. IfOk r (λ _. Filled (down_in ws m) t)) count all.1;

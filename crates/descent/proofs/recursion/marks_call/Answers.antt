@@ -4,10 +4,10 @@ use Rattle.descent.specs.Records.{callee}
 use Rattle.descent.proofs.InSheet.{called_inside, call_inside}
 use Rattle.descent.proofs.recursion.marks_call.Goals as goal
 
-pub returns-then-is-call : goal.returns-then-is-call
-returns-then-is-call c =
+pub returns-then-is_call : goal.returns-then-is_call
+returns-then-is_call c =
     let k = c.loop-number.number in (
-      λ e. (k, omega arith, called_inside c.args.reader.now.words.now c.args.count k (omega arith) ∙ (ap callee (sym c.step.ensures) ∙ c.is-call.ensures.0 c.if-is-call.true)),
+      λ e. (k, omega arith, called_inside c.args.reader.now.words.now c.args.count k (omega arith) ∙ (ap callee (sym c.step.ensures) ∙ c.is_call.ensures.0 c.if-is_call.true)),
       λ e. refl,
     )
 

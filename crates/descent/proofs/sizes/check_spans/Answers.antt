@@ -7,11 +7,11 @@ use Rattle.descent.proofs.InSheet.{down_outside}
 use Rattle.descent.proofs.Growing.{all_known, over_wide, within_narrow}
 use Rattle.descent.proofs.sizes.check_spans.Goals as goal
 
-pub returns-in-err-expect : goal.returns-in-err-expect
+pub returns-in_err-expect : goal.returns-in_err-expect
 unfolding span_check
-returns-in-err-expect c =
-    let p = err_from_is_err_and c.from-residual.result c.from-residual.ensures.1 in
-    let h = c.in-err-expect.ensures in
+returns-in_err-expect c =
+    let p = err_from_is_err_and c.from_residual.result c.from_residual.ensures.1 in
+    let h = c.in_err-expect.ensures in
     let r = c.loop-number.number in
     let down : (ℕ → Below) = down_in c.args.reader.now.words.now c.args.count in
     let above = leb-false _ _ h.0 in
@@ -26,7 +26,7 @@ loop-number-preserved c =
     let n = c.args.count in
     let r = c.loop-number.number in
     let t = c.args.table.now in
-    let within = leb-true _ _ c.in-ok-expect.ensures in
+    let within = leb-true _ _ c.in_ok-expect.ensures in
     below_more _ _ c.loop-number.invariant
     (λ wide.
     within_narrow (down_in ws n) t c.requires.known r

@@ -18,12 +18,12 @@ loop-number-preserved c =
     let at = down_inside ws n i (omega arith) in
     elim c.if-table-number-eq0.branch [
       | then-table-number-eq0+then-word-ne0 w ↦
-          (let word = w.word-over-word.result in
-          let is : word ≡ word_over (down i) t = w.word-over-word.ensures ∙ ap (λ x. word_over x t) (w.below.ensures ∙ sym at) in
+          (let word = w.word_over-word.result in
+          let is : word ≡ word_over (down i) t = w.word_over-word.ensures ∙ ap (λ x. word_over x t) (w.below.ensures ∙ sym at) in
           let more : Grown down (i + 1) before (set t i word) true = grown_more down i before t c.loop-number.changed word c.loop-number.invariant (omega (arith, w)) (omega (arith, w)) is (omega (arith, w)) in
           subst (λ u. Grown down (i + 1) before u c.if-table-number-eq0.changed) (sym w.table-is) (subst (λ b. Grown down (i + 1) before (set t i word) b) (sym w.changed-is) more))
       | then-table-number-eq0+else-word-ne0 w ↦
-          (let none : word_over (down i) t ≡ 0 = ap (λ x. word_over x t) (at ∙ sym w.below.ensures) ∙ (sym w.word-over-word.ensures ∙ w.if-word-ne0.false) in
+          (let none : word_over (down i) t ≡ 0 = ap (λ x. word_over x t) (at ∙ sym w.below.ensures) ∙ (sym w.word_over-word.ensures ∙ w.if-word-ne0.false) in
           subst (λ u. Grown down (i + 1) before u c.if-table-number-eq0.changed) (sym w.table-is)
           (subst (λ b. Grown down (i + 1) before t b) (sym w.changed-is) (grown_same down i before t c.loop-number.changed c.loop-number.invariant (λ z. none))))
       | else-table-number-eq0 w ↦

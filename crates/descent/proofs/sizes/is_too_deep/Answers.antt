@@ -12,7 +12,7 @@ returns-then-table-number-eq0 c =
     let n = c.args.count in
     let r = c.args.number in
     let at : down_in ws n r ≡ c.below.result = down_inside ws n r c.requires.inside ∙ sym c.below.ensures in
-    let found = c.is-behaviour.ensures in (
+    let found = c.is_behaviour.ensures in (
       λ e. unknown_deep (down_in ws n) c.args.table.now c.requires.known n (λ k out. down_outside ws n k out) c.requires.settled r
           (subst Behaviour (sym at) (found.0 e)) (omega arith),
       λ deep. found.1 (subst Behaviour at deep.0),

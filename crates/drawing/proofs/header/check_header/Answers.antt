@@ -7,17 +7,17 @@ use Rattle.drawing.proofs.header.check_header.Goals as goal
 pub returns-in_err-expect : goal.returns-in_err-expect
 unfolding header_check
 returns-in_err-expect c =
-    let p = err_from_is_err_and c.from-residual.result c.from-residual.ensures.1 in
+    let p = err_from_is_err_and c.from_residual.result c.from_residual.ensures.1 in
     let h = c.in_err-expect.ensures in
     rw (p.1, p.2) (
       c.loop-i.i,
-      (record { inside = omega arith; is = sym c.header-right.ensures ∙ h.0; before = c.loop-i.invariant }, h.1),
+      (record { inside = omega arith; is = sym c.header_right.ensures ∙ h.0; before = c.loop-i.invariant }, h.1),
     )
 
 pub loop-i-preserved : goal.loop-i-preserved
 loop-i-preserved c =
     below_more _ _ c.loop-i.invariant
-    (λ wrong. both_ways _ wrong (sym c.header-right.ensures ∙ c.in_ok-expect.ensures))
+    (λ wrong. both_ways _ wrong (sym c.header_right.ensures ∙ c.in_ok-expect.ensures))
 
 pub returns : goal.returns
 unfolding header_check

@@ -18,22 +18,4 @@ pub invariant_of-result : goal.invariant_of-result
 invariant_of-result c =
     let ws = vec_items c.args.words in
     let good = c.requires in
-    let same = c.new-table.ensures ∙ c.deref.ensures.value in (
-      headed ws good,
-      (
-        counted ws good,
-        (
-          alphabetical ws good,
-          (
-            tabled ws good,
-            (
-              start_drawn ws (headed ws good),
-              (
-                c.rows-at-rows.ensures ∙ ap (λ xs. range_of xs (place_word 0)) same,
-                (c.ceilings-of-ceilings.ensures ∙ ap ceilings_of same, tt),
-              ),
-            ),
-          ),
-        ),
-      ),
-    )
+    let same = c.new-table.ensures ∙ c.deref.ensures.value in record { headed = headed ws good; counted = counted ws good; alphabetical = alphabetical ws good; tabled = tabled ws good; stands = start_drawn ws (headed ws good); found = c.rows_at-rows.ensures ∙ ap (λ xs. range_of xs (place_word 0)) same; told = c.ceilings_of-ceilings.ensures ∙ ap ceilings_of same }

@@ -8,7 +8,7 @@ at-start-requires c =
     subst (λ ws. verdict ws (Ok tt)) (c.new.ensures ∙ c.deref.ensures.value) c.in-Ok.ensures
 
 pub returns-in-Ok : goal.returns-in-Ok
-returns-in-Ok c = record { drawn = c.at-start.ensures; single = single_verdict (vec_items c.args.words) }
+returns-in-Ok c = record { drawn = c.at_start.ensures; single = single_verdict (vec_items c.args.words) }
 
 pub returns-in-Err : goal.returns-in-Err
 returns-in-Err c =

@@ -9,8 +9,8 @@ pub loop-place-preserved : goal.loop-place-preserved
 loop-place-preserved c =
     let ws = c.args.table.now.words.now in
     let place = c.loop-place.place in
-    greatest-more (λ p. length (rows_from ws (place_word p))) place c.rows-at.result.count c.loop-place.most _ c.max-most.ensures
-    (ap (λ (x : Range). x.count) c.rows-at.ensures ∙ sym (rows-counted ws c.requires (place_word place))) c.loop-place.invariant
+    greatest-more (λ p. length (rows_from ws (place_word p))) place c.rows_at.result.count c.loop-place.most _ c.max-most.ensures
+    (ap (λ (x : Range). x.count) c.rows_at.ensures ∙ sym (rows-counted ws c.requires (place_word place))) c.loop-place.invariant
 
 pub returns : goal.returns
 unfolding most_rows

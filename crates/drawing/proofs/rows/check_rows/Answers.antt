@@ -15,7 +15,7 @@ returns-in_err-check-row c =
 pub loop-number-preserved : goal.loop-number-preserved
 loop-number-preserved c =
     let r = c.loop-number.number in (
-      row_clear _ r _ _ c.loop-number.invariant.1 c.row-row.ensures c.in_ok-check-row.ensures c.loop-number.invariant.0,
+      row_clear _ r _ _ c.loop-number.invariant.1 c.row-row.ensures c.in_ok-check_row.ensures c.loop-number.invariant.0,
       ap (λ (x : Row). x.from) c.row-row.ensures ∙ before_more (from_at c.args.table.now.words.now) r,
     )
 

@@ -7,5 +7,5 @@ use Rattle.edges.proofs.frame.handler.Given as goal
 
 abbrev pub invariant-loop-step : goal.invariant-loop-step
 invariant-loop-step l =
-    first_for (map (clause_at (vec_items l.model.words)) (rest (vec_items l.model.words) l.-step l.link)) l.action
+    first_for (map (clause_at (vec_items l.model.words)) (rest (vec_items l.model.words) l._step l.link)) l.action
     ≡ first_for (clauses_from (vec_items l.model.words) l.first) l.action

@@ -9,7 +9,7 @@ returns-in-Some c =
       value =
           edge_cut _ c.args.path _ _ c.in-Some.landing
           (omega (arith, c.in-Some.ensures.within, ap length c.words.ensures, counts c.args.path.frames))
-          c.words.ensures c.leaf-action-action.ensures c.in-Some.ensures.place;
+          c.words.ensures c.leaf_action-action.ensures c.in-Some.ensures.place;
       same = refl;
     }
 
@@ -17,7 +17,7 @@ pub returns : goal.returns
 returns c =
     record {
       value =
-          edge_uncut _ c.args.path _ _ c.leaf-ways.result (omega arith) c.words.ensures c.leaf-action-action.ensures
-          c.in-None.ensures.place c.leaf-ways.ensures;
+          edge_uncut _ c.args.path _ _ c.leaf_ways.result (omega arith) c.words.ensures c.leaf_action-action.ensures
+          c.in-None.ensures.place c.leaf_ways.ensures;
       same = refl;
     }

@@ -8,8 +8,8 @@ use Rattle.extent.proofs.bounds.greatest_weight.Goals as goal
 pub loop-number-preserved : goal.loop-number-preserved
 loop-number-preserved c =
     let ws = vec_items c.args.model.now.words in
-    swept_up (λ r. weight_by ws (step_at ws r)) c.loop-number.number c.loop-number.most c.step-weight.result c.max-most.result
-    c.max-most.ensures (weight_at ws _ c.reader-reader.ensures c.loop-number.number _ _ c.step-weight.ensures c.step.ensures) c.loop-number.invariant
+    swept_up (λ r. weight_by ws (step_at ws r)) c.loop-number.number c.loop-number.most c.step_weight.result c.max-most.result
+    c.max-most.ensures (weight_at ws _ c.reader-reader.ensures c.loop-number.number _ _ c.step_weight.ensures c.step.ensures) c.loop-number.invariant
 
 pub returns : goal.returns
 unfolding greatest_weight

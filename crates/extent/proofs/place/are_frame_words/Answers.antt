@@ -4,13 +4,13 @@ use Rattle.paths.specs.Places.{are_frame_words}
 use Rattle.extent.proofs.Sweeping.{frames_fail, frames_on}
 use Rattle.extent.proofs.place.are_frame_words.Goals as goal
 
-pub returns-then-not-is-frame-word : goal.returns-then-not-is-frame-word
-returns-then-not-is-frame-word c =
-    frames_fail _ c.args.words.now c.loop-word.word-index c.loop-word-test.true c.if-not-is-frame-word.ensures ∙ c.loop-word.invariant
+pub returns-then-not-is_frame_word : goal.returns-then-not-is_frame_word
+returns-then-not-is_frame_word c =
+    frames_fail _ c.args.words.now c.loop-word.word-index c.loop-word-test.true c.if-not-is_frame_word.ensures ∙ c.loop-word.invariant
 
 pub loop-word-preserved : goal.loop-word-preserved
 loop-word-preserved c =
-    frames_on _ c.args.words.now c.loop-word.word-index c.loop-word-test.true c.if-not-is-frame-word.ensures ∙ c.loop-word.invariant
+    frames_on _ c.args.words.now c.loop-word.word-index c.loop-word-test.true c.if-not-is_frame_word.ensures ∙ c.loop-word.invariant
 
 pub returns : goal.returns
 returns c =

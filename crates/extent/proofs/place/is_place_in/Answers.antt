@@ -7,4 +7,4 @@ pub returns-then-head : goal.returns-then-head
 returns-then-head c = done_place _ c.args.code.now (omega (arith, ltb-false, ltb-true)) c.if-head.true
 
 pub returns : goal.returns
-returns c = c.is-running.ensures ∙ running_place _ c.args.code.now (omega (arith, ltb-false, ltb-true)) c.if-head.false
+returns c = c.is_running.ensures ∙ running_place _ c.args.code.now (omega (arith, ltb-false, ltb-true)) c.if-head.false

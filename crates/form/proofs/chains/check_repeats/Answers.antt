@@ -4,11 +4,11 @@ use Rattle.std.proofs.lemmas.Result.{err_from_is_err_and}
 use Rattle.form.specs.Chains.{repeat_check}
 use Rattle.form.proofs.chains.check_repeats.Goals as goal
 
-pub returns-in-err-expect : goal.returns-in-err-expect
+pub returns-in_err-expect : goal.returns-in_err-expect
 unfolding repeat_check
-returns-in-err-expect c =
-    let p = err_from_is_err_and c.from-residual.result c.from-residual.ensures.1 in
-    let h = c.in-err-expect.ensures in
+returns-in_err-expect c =
+    let p = err_from_is_err_and c.from_residual.result c.from_residual.ensures.1 in
+    let h = c.in_err-expect.ensures in
     rw (p.1, p.2) (
       c.loop-number.number,
       (record { inside = omega arith; is = sym c.repeats.ensures ∙ not-false _ h.0; before = c.loop-number.invariant }, h.1),
@@ -17,7 +17,7 @@ returns-in-err-expect c =
 pub loop-number-preserved : goal.loop-number-preserved
 loop-number-preserved c =
     below_more _ _ c.loop-number.invariant
-    (λ wrong. both_ways _ (sym c.repeats.ensures ∙ not-true _ c.in-ok-expect.ensures) wrong)
+    (λ wrong. both_ways _ (sym c.repeats.ensures ∙ not-true _ c.in_ok-expect.ensures) wrong)
 
 pub returns : goal.returns
 unfolding repeat_check

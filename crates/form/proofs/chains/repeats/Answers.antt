@@ -15,5 +15,5 @@ in-terms ws x y k kind s x_is k_is s_is kind-is = rw (kind-is, s_is, k_is, x_is)
 pub returns : goal.returns
 unfolding repeats
 returns c =
-    c.is-repeat.ensures
+    c.is_repeat.ensures
     ∙ in-terms _ _ _ _ _ _ c.record-record.ensures c.key.ensures c.survey.ensures c.kind.ensures

@@ -5,14 +5,14 @@ use Rattle.words.specs.declared.Refusal.TheVariants.{Record}
 use Rattle.std.proofs.lemmas.Result.{err_from_is_err_and}
 use Rattle.form.proofs.records.check_record.Goals as goal
 
-pub returns-in-err-expect : goal.returns-in-err-expect
-returns-in-err-expect c =
-    let p = err_from_is_err_and c.from-residual.result c.from-residual.ensures.1 in
-    let h = c.in-err-expect.ensures in
+pub returns-in_err-expect : goal.returns-in_err-expect
+returns-in_err-expect c =
+    let p = err_from_is_err_and c.from_residual.result c.from_residual.ensures.1 in
+    let h = c.in_err-expect.ensures in
     rw (p.1, p.2) (
       c.loop-j.j,
       (
-        record { inside = omega arith; is = sym c.word-right.ensures ∙ h.0; before = c.loop-j.invariant },
+        record { inside = omega arith; is = sym c.word_right.ensures ∙ h.0; before = c.loop-j.invariant },
         h.1 ∙ ap (λ n. fault Record (n + c.loop-j.j)) (rw c.processes.ensures),
       ),
     )
@@ -20,7 +20,7 @@ returns-in-err-expect c =
 pub loop-j-preserved : goal.loop-j-preserved
 loop-j-preserved c =
     below_more _ _ c.loop-j.invariant
-    (λ wrong. both_ways _ wrong (sym c.word-right.ensures ∙ c.in-ok-expect.ensures))
+    (λ wrong. both_ways _ wrong (sym c.word_right.ensures ∙ c.in_ok-expect.ensures))
 
 pub returns : goal.returns
 returns c = λ k h. c.loop-j.invariant k (omega arith)

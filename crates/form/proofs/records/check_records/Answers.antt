@@ -7,11 +7,11 @@ use Rattle.sheet.specs.Layout.{position}
 use Rattle.form.proofs.Rows.{rows_more, rows-found}
 use Rattle.form.proofs.records.check_records.Goals as goal
 
-pub returns-in-err-check-record : goal.returns-in-err-check-record
+pub returns-in_err-check_record : goal.returns-in_err-check_record
 unfolding record_check
-returns-in-err-check-record c =
-    let p = err_from_is_err_and c.from-residual.result c.from-residual.ensures.1 in
-    let h = c.in-err-check-record.ensures in
+returns-in_err-check_record c =
+    let p = err_from_is_err_and c.from_residual.result c.from_residual.ensures.1 in
+    let h = c.in_err-check_record.ensures in
     let ws = c.args.reader.now.words.now in
     let r = c.loop-number.number in
     let same : position ws r + h.0 ≡ position ws 0 + (4 * r + h.0) = omega arith in
@@ -26,7 +26,7 @@ returns-in-err-check-record c =
 pub loop-number-preserved : goal.loop-number-preserved
 loop-number-preserved c =
     rows_more (λ r j. word_right c.args.reader.now.words.now r j ≡ false) c.loop-number.number c.loop-number.invariant
-    c.in-ok-check-record.ensures
+    c.in_ok-check_record.ensures
 
 pub returns : goal.returns
 unfolding record_check

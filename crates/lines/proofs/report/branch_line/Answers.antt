@@ -7,7 +7,7 @@ use Rattle.lines.proofs.report.branch_line.Goals as goal
 
 pub returns-in_err-edge : goal.returns-in_err-edge
 returns-in_err-edge c =
-    let p = err_from_is_err_and c.from-residual.result c.from-residual.ensures.1 in
+    let p = err_from_is_err_and c.from_residual.result c.from_residual.ensures.1 in
     let missing = c.in_err-edge.ensures in
     let line = no_edge_branch_line c.args.list.words.now c.args.number c.args.branch missing.past in
     record {
@@ -17,7 +17,7 @@ returns-in_err-edge c =
 
 pub returns-in_err-branch : goal.returns-in_err-branch
 returns-in_err-branch c =
-    let p = err_from_is_err_and c.from-residual-in_err-branch.result c.from-residual-in_err-branch.ensures.1 in
+    let p = err_from_is_err_and c.from_residual-in_err-branch.result c.from_residual-in_err-branch.ensures.1 in
     let missing = c.in_err-branch.ensures in
     let line = no_branch_line c.args.list.words.now c.args.number c.args.branch _ _ c.in_ok-edge.ensures missing.past in
     record {
@@ -29,6 +29,6 @@ pub returns : goal.returns
 returns c =
     let line = branch_line c.args.list.words.now c.args.number c.args.branch _ _ _ _ c.in_ok-edge.ensures c.in_ok-branch.ensures in
     record {
-      answer = c.listed-branch-line.ensures.answer ∙ sym (ap (λ (l : Answer (List ℕ)). answered l (length c.args.out.now)) line);
-      out = c.listed-branch-line.ensures.out ∙ sym (ap (λ (l : Answer (List ℕ)). out_after l c.args.out.now) line);
+      answer = c.listed_branch_line.ensures.answer ∙ sym (ap (λ (l : Answer (List ℕ)). answered l (length c.args.out.now)) line);
+      out = c.listed_branch_line.ensures.out ∙ sym (ap (λ (l : Answer (List ℕ)). out_after l c.args.out.now) line);
     }

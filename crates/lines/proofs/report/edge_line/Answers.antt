@@ -7,7 +7,7 @@ use Rattle.lines.proofs.report.edge_line.Goals as goal
 
 pub returns-in_err-edge : goal.returns-in_err-edge
 returns-in_err-edge c =
-    let p = err_from_is_err_and c.from-residual.result c.from-residual.ensures.1 in
+    let p = err_from_is_err_and c.from_residual.result c.from_residual.ensures.1 in
     let missing = c.in_err-edge.ensures in
     let line = no_edge_line c.args.list.words.now c.args.number missing.past in
     record {
@@ -19,6 +19,6 @@ pub returns : goal.returns
 returns c =
     let line = edge_line c.args.list.words.now c.args.number _ _ c.in_ok-edge.ensures in
     record {
-      answer = c.listed-edge-line.ensures.answer ∙ sym (ap (λ (l : Answer (List ℕ)). answered l (length c.args.out.now)) line);
-      out = c.listed-edge-line.ensures.out ∙ sym (ap (λ (l : Answer (List ℕ)). out_after l c.args.out.now) line);
+      answer = c.listed_edge_line.ensures.answer ∙ sym (ap (λ (l : Answer (List ℕ)). answered l (length c.args.out.now)) line);
+      out = c.listed_edge_line.ensures.out ∙ sym (ap (λ (l : Answer (List ℕ)). out_after l c.args.out.now) line);
     }

@@ -15,11 +15,11 @@ some-code (w ∷ ws) some = refl
 pub loop-word-preserved : goal.loop-word-preserved
 loop-word-preserved c =
     put_as _ _ _ _ _ _ (sym (joined_one_more (word_text Place) c.args.code.now c.loop-word.word-index 0 c.loop-word-test.true))
-    (put_then _ _ _ _ _ _ _ _ c.loop-word.invariant c.put-word.ensures)
+    (put_then _ _ _ _ _ _ _ _ c.loop-word.invariant c.put_word.ensures)
 
 pub returns : goal.returns
 returns c =
     put_as _ _ _ _ _ _
     (ap (flat_map (word_text Place)) (take_all c.loop-word.word-index c.args.code.now c.loop-word-test.false)
-    ∙ some-code c.args.code.now (eqb-false _ _ (sym c.if-is-empty.ensures)))
+    ∙ some-code c.args.code.now (eqb-false _ _ (sym c.if-is_empty.ensures)))
     c.loop-word.invariant

@@ -18,7 +18,7 @@ loop-left-preserved c =
       (
         inv.1.0 ∙ (ap (λ (ps : List (ℕ × ℕ)). inv.0 ++ ps) (pair_and_rest left long) ∙ sym (append_assoc inv.0 (pair ∷ []) _)),
         put_as _ _ _ _ _ _ (sym (joined_one (λ p. codes " " ++ pair_text p) inv.0 pair))
-            (put_then _ _ _ _ _ _ _ _ inv.1.1 (put_then _ _ _ _ _ _ _ _ c.put.ensures c.put-pair-in-len2-up-left.ensures)),
+            (put_then _ _ _ _ _ _ _ _ inv.1.1 (put_then _ _ _ _ _ _ _ _ c.put.ensures c.put_pair-in-len2-up-left.ensures)),
       ),
     )
 
@@ -33,4 +33,4 @@ returns c =
     let long : 2 ≤ length c.args.pairs.now = omega (arith, ltb-false) in
     let short : length c.loop-left.left.now < 2 = omega (arith, ltb-true) in
     put_as _ _ _ _ _ _ (all-pairs c.args.pairs.now c.loop-left.left.now inv.0 long short inv.1.0)
-    (put_then _ _ _ _ _ _ _ _ c.put-pair.ensures inv.1.1)
+    (put_then _ _ _ _ _ _ _ _ c.put_pair.ensures inv.1.1)

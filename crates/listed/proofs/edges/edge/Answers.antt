@@ -21,12 +21,12 @@ loop-passed-init c = let all : c.number-count.result - 0 ≡ c.number-count.resu
 
 pub loop-passed-preserved : goal.loop-passed-preserved
 loop-passed-preserved c =
-    pass_one edges_from edge_in behind_edge (λ _. refl) (λ _ _. refl) (edges_from c.number-count.result c.behind-rest.result.now) c.number-count.result c.loop-passed.-passed c.loop-passed.rest.now (omega arith) c.loop-passed.invariant
-    ∙ sym (ap (edges_from (c.number-count.result - (c.loop-passed.-passed + 1))) c.behind-edge-rest.ensures)
+    pass_one edges_from edge_in behind_edge (λ _. refl) (λ _ _. refl) (edges_from c.number-count.result c.behind-rest.result.now) c.number-count.result c.loop-passed._passed c.loop-passed.rest.now (omega arith) c.loop-passed.invariant
+    ∙ sym (ap (edges_from (c.number-count.result - (c.loop-passed._passed + 1))) c.behind_edge-rest.ensures)
 
 pub returns : goal.returns
 returns c =
-    let passed : c.loop-passed.-passed ≡ c.args.number = omega arith in
+    let passed : c.loop-passed._passed ≡ c.args.number = omega arith in
     let whole : List (Edge (List ℕ)) = edges_from c.number-count.result c.behind-rest.result.now in
     let P : ℕ → Type 0 = λ n. drop n whole ≡ edges_from (c.number-count.result - n) c.loop-passed.rest.now in
     present edges_from edge_in behind_edge (λ _. refl) (λ _ _. refl) whole c.number-count.result c.args.number c.loop-passed.rest.now (omega arith) (subst P passed c.loop-passed.invariant)

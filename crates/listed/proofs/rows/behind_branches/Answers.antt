@@ -7,5 +7,5 @@ one_less n i ws h = let more : n - i ≡ suc (n - (i + 1)) = omega arith in rw m
 
 pub loop-branch-preserved : goal.loop-branch-preserved
 loop-branch-preserved c =
-    ap (behind_branches (c.args.count - (c.loop-branch.-branch + 1))) c.behind-branch-rest.ensures
-    ∙ (one_less c.args.count c.loop-branch.-branch c.loop-branch.rest.now c.loop-branch-test.true ∙ c.loop-branch.invariant)
+    ap (behind_branches (c.args.count - (c.loop-branch._branch + 1))) c.behind_branch-rest.ensures
+    ∙ (one_less c.args.count c.loop-branch._branch c.loop-branch.rest.now c.loop-branch-test.true ∙ c.loop-branch.invariant)

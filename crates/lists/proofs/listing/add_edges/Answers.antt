@@ -23,8 +23,8 @@ loop-id-init g c =
       added = added_none c.args.mark.now c.args.words.now;
     }
 
-pub add-edge-requires : goal.add-edge-requires
-add-edge-requires g c =
+pub add_edge-requires : goal.add_edge-requires
+add_edge-requires g c =
     let M : Meaning = g.P.Part.meaning c.args.part.now in
     let law = g.met.P.Part.lawful c.args.part.now in
     let was = c.in_ok-id.was in
@@ -38,15 +38,15 @@ add-edge-requires g c =
       room = inv.added.inside c.requires.room;
     }
 
-pub returns-in_err-add-edge : goal.returns-in_err-add-edge
-returns-in_err-add-edge g c =
+pub returns-in_err-add_edge : goal.returns-in_err-add_edge
+returns-in_err-add_edge g c =
     let M : Meaning = g.P.Part.meaning c.args.part.now in
     let was = c.in_ok-id.was in
     let h = (next_hop M c.loop-id.from c.in-Some.id (cc)).1 in
-    let p = err_from_is_err_and c.from-residual-in_err-add-edge.result c.from-residual-in_err-add-edge.ensures.1 in
+    let p = err_from_is_err_and c.from_residual-in_err-add_edge.result c.from_residual-in_err-add_edge.ensures.1 in
     rw (p.1, p.2)
-    (no_room M c.loop-id.from c.args.mark.now c.loop-id.mark c.add-edge.new.mark c.args.words.now c.loop-id.words c.add-edge.new.words c.loop-id.invariant c.requires.room c.loop-id.auto.words h.thing _ h.things _
-    (c.in_err-add-edge.ensures h.thing (by_id M c.in-Some.id h.thing c.requires.sized h.stands)))
+    (no_room M c.loop-id.from c.args.mark.now c.loop-id.mark c.add_edge.new.mark c.args.words.now c.loop-id.words c.add_edge.new.words c.loop-id.invariant c.requires.room c.loop-id.auto.words h.thing _ h.things _
+    (c.in_err-add_edge.ensures h.thing (by_id M c.in-Some.id h.thing c.requires.sized h.stands)))
 
 pub overflow_add-from : goal.overflow_add-from
 overflow_add-from g c =
@@ -68,8 +68,8 @@ loop-id-preserved g c =
     let M : Meaning = g.P.Part.meaning c.args.part.now in
     let was = c.in_ok-id.was in
     let h = (next_hop M c.loop-id.from c.in-Some.id (cc)).1 in
-    let more = one_more M c.loop-id.from c.args.mark.now c.loop-id.mark c.add-edge.new.mark c.args.words.now c.loop-id.words c.add-edge.new.words c.loop-id.invariant c.requires.room c.loop-id.auto.words h.thing _ h.things
-    (c.in_ok-add-edge.ensures h.thing (by_id M c.in-Some.id h.thing c.requires.sized h.stands)) in
+    let more = one_more M c.loop-id.from c.args.mark.now c.loop-id.mark c.add_edge.new.mark c.args.words.now c.loop-id.words c.add_edge.new.words c.loop-id.invariant c.requires.room c.loop-id.auto.words h.thing _ h.things
+    (c.in_ok-add_edge.ensures h.thing (by_id M c.in-Some.id h.thing c.requires.sized h.stands)) in
     record { done = more.0; split = more.1.0; added = more.1.1 }
 
 pub returns : goal.returns

@@ -72,7 +72,7 @@ returns-in-Ok g c =
     let ws : List ℕ = c.args.words.now in
     let sized : M.automaton.ceilings.edges ≡ 0 → ⊥ = λ h. c.if-ceilings-eq0.false (ap (λ x. x.edges) c.ceilings.ensures ∙ h) in
     let begun = c.in-Some.ensures in
-    let e = list_ended (edges_here M) c.in-Some.mark c.add-edges-whole.new.mark ws c.add-edges-whole.new.words begun c.add-edges-whole.ensures.added c.add-edges-whole.auto.words in
+    let e = list_ended (edges_here M) c.in-Some.mark c.add_edges-whole.new.mark ws c.add_edges-whole.new.words begun c.add_edges-whole.ensures.added c.add_edges-whole.auto.words in
     let counts = c.end-counts.ensures.counts ∙ e.1 in
     let list = c.end-counts.ensures.list ∙ e.0 in
     record {
@@ -87,7 +87,7 @@ returns-in-Err g c =
     let ws : List ℕ = c.args.words.now in
     let sized : M.automaton.ceilings.edges ≡ 0 → ⊥ = λ h. c.if-ceilings-eq0.false (ap (λ x. x.edges) c.ceilings.ensures ∙ h) in
     let begun = c.in-Some.ensures in
-    let e = list_ended (edges_here M) c.in-Some.mark c.add-edges-whole.new.mark ws c.add-edges-whole.new.words begun c.add-edges-whole.ensures.added c.add-edges-whole.auto.words in
+    let e = list_ended (edges_here M) c.in-Some.mark c.add_edges-whole.new.mark ws c.add_edges-whole.new.words begun c.add_edges-whole.ensures.added c.add_edges-whole.auto.words in
     let counts = c.end-counts.ensures.counts ∙ e.1 in
     let list = c.end-counts.ensures.list ∙ e.0 in
     record {

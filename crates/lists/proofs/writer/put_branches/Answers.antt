@@ -15,32 +15,32 @@ is-count edge e n is h = let h' = rw is at h in cc
 is-branch : (edge : Answer (Edge (List ℕ))) (e : Edge (List ℕ)) (i : ℕ) (b : Branch (List ℕ)) → edge ≡ Ok e → slice_get e.branches i ≡ Some b → branch_of edge i ≡ Ok b
 is-branch edge e i b is there = rw (is, there) refl
 
-pub returns-then-is-full : goal.returns-then-is-full
-returns-then-is-full g c e is =
+pub returns-then-is_full : goal.returns-then-is_full
+returns-then-is_full g c e is =
     let done : List (Branch (List ℕ)) = take c.loop-branch.branch e.branches in
     let left : List (Branch (List ℕ)) = drop c.loop-branch.branch e.branches in
     wrote_as _ _ _ _ (flat_map branch_words done ++ flat_map branch_words left) (flat_map branch_words e.branches)
     (sym (joined_append branch_words done left) ∙ ap (flat_map branch_words) (take-append-drop c.loop-branch.branch e.branches))
-    (wrote_full _ _ _ _ (flat_map branch_words done) (flat_map branch_words left) (c.loop-branch.invariant e is) (sym c.is-full.ensures ∙ c.if-is-full.true))
+    (wrote_full _ _ _ _ (flat_map branch_words done) (flat_map branch_words left) (c.loop-branch.invariant e is) (sym c.is_full.ensures ∙ c.if-is_full.true))
 
-pub put-branch-requires : goal.put-branch-requires
-put-branch-requires g c =
+pub put_branch-requires : goal.put_branch-requires
+put_branch-requires g c =
     let edge : Answer (Edge (List ℕ)) = edge_by_id (g.P.Part.meaning c.args.part.now) c.args.id in
     let is = ok_is edge c.requires in
-    let n = is-count edge is.0 c.unwrap-count.result is.1 (sym c.branch-count.ensures ∙ c.unwrap-count.ensures) in
+    let n = is-count edge is.0 c.unwrap-count.result is.1 (sym c.branch_count.ensures ∙ c.unwrap-count.ensures) in
     let there = nth_some is.0.branches c.loop-branch.branch (omega (arith, n)) in
     ap is_ok (is-branch edge is.0 c.loop-branch.branch there.0 is.1 there.1)
 
 pub loop-branch-preserved : goal.loop-branch-preserved
 loop-branch-preserved g c e is =
     let edge : Answer (Edge (List ℕ)) = edge_by_id (g.P.Part.meaning c.args.part.now) c.args.id in
-    let n = is-count edge e c.unwrap-count.result is (sym c.branch-count.ensures ∙ c.unwrap-count.ensures) in
+    let n = is-count edge e c.unwrap-count.result is (sym c.branch_count.ensures ∙ c.unwrap-count.ensures) in
     let there = nth_some e.branches c.loop-branch.branch (omega (arith, n)) in
     wrote_as _ _ _ _ _ _ (sym (joined_nth branch_words e.branches c.loop-branch.branch there.0 there.1))
-    (wrote_then _ _ _ _ _ _ _ _ (c.loop-branch.invariant e is) (c.put-branch.ensures there.0 (is-branch edge e c.loop-branch.branch there.0 is there.1)))
+    (wrote_then _ _ _ _ _ _ _ _ (c.loop-branch.invariant e is) (c.put_branch.ensures there.0 (is-branch edge e c.loop-branch.branch there.0 is there.1)))
 
 pub returns : goal.returns
 returns g c e is =
     let edge : Answer (Edge (List ℕ)) = edge_by_id (g.P.Part.meaning c.args.part.now) c.args.id in
-    let n = is-count edge e c.unwrap-count.result is (sym c.branch-count.ensures ∙ c.unwrap-count.ensures) in
+    let n = is-count edge e c.unwrap-count.result is (sym c.branch_count.ensures ∙ c.unwrap-count.ensures) in
     wrote_as _ _ _ _ _ _ (ap (flat_map branch_words) (take_all c.loop-branch.branch e.branches (omega (arith, n)))) (c.loop-branch.invariant e is)

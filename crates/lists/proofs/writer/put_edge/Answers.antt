@@ -32,30 +32,30 @@ pub heading-requires : goal.heading-requires
 heading-requires g c =
     let M : Meaning = g.P.Part.meaning c.args.part.now in
     let is = ok_is (edge_by_id M c.args.id) c.requires in
-    (lit< tt, guard_small M (g.met.P.Part.lawful c.args.part.now) c.args.id c.unwrap-guard.result is.0 is.1 (sym c.guard-length.ensures ∙ c.unwrap-guard.ensures))
+    (lit< tt, guard_small M (g.met.P.Part.lawful c.args.part.now) c.args.id c.unwrap-guard.result is.0 is.1 (sym c.guard_length.ensures ∙ c.unwrap-guard.ensures))
 
 pub heading-requires-2 : goal.heading-requires-2
 heading-requires-2 g c =
     let M : Meaning = g.P.Part.meaning c.args.part.now in
     let is = ok_is (edge_by_id M c.args.id) c.requires in
-    (lit< tt, deadline_small M (g.met.P.Part.lawful c.args.part.now) c.args.id c.unwrap-deadline.result is.0 is.1 (sym c.deadline-length.ensures ∙ c.unwrap-deadline.ensures))
+    (lit< tt, deadline_small M (g.met.P.Part.lawful c.args.part.now) c.args.id c.unwrap-deadline.result is.0 is.1 (sym c.deadline_length.ensures ∙ c.unwrap-deadline.ensures))
 
 pub heading-requires-3 : goal.heading-requires-3
 heading-requires-3 g c =
     let M : Meaning = g.P.Part.meaning c.args.part.now in
     let is = ok_is (edge_by_id M c.args.id) c.requires in
-    (lit< tt, branches_small M (g.met.P.Part.lawful c.args.part.now) c.args.id c.unwrap-branches.result is.0 is.1 (sym c.branch-count.ensures ∙ c.unwrap-branches.ensures))
+    (lit< tt, branches_small M (g.met.P.Part.lawful c.args.part.now) c.args.id c.unwrap-branches.result is.0 is.1 (sym c.branch_count.ensures ∙ c.unwrap-branches.ensures))
 
 pub returns : goal.returns
 returns g c e is =
     let edge : Answer (Edge (List ℕ)) = edge_by_id (g.P.Part.meaning c.args.part.now) c.args.id in
-    edge_written e c.args.rec.now c.put.new.self c.put-2.new.self c.put-row.new.rec c.put-3.new.self c.put-row-2.new.rec c.put-4.new.self c.put-branches.new.rec
-    c.args.words.now c.put.new.words c.put-2.new.words c.put-row.new.words c.put-3.new.words c.put-row-2.new.words c.put-4.new.words c.put-branches.new.words
+    edge_written e c.args.rec.now c.put.new.self c.put-2.new.self c.put_row.new.rec c.put-3.new.self c.put_row-2.new.rec c.put-4.new.self c.put_branches.new.rec
+    c.args.words.now c.put.new.words c.put-2.new.words c.put_row.new.words c.put-3.new.words c.put_row-2.new.words c.put-4.new.words c.put_branches.new.words
     c.heading.result c.unwrap-action.result c.heading-2.result c.heading-3.result
-    (c.heading.ensures ∙ ap (word 13) (is_guard edge e is c.unwrap-guard.result (sym c.guard-length.ensures ∙ c.unwrap-guard.ensures)))
+    (c.heading.ensures ∙ ap (word 13) (is_guard edge e is c.unwrap-guard.result (sym c.guard_length.ensures ∙ c.unwrap-guard.ensures)))
     (is_action edge e is c.unwrap-action.result (sym c.action.ensures ∙ c.unwrap-action.ensures))
-    (c.heading-2.ensures ∙ ap (word 14) (is_deadline edge e is c.unwrap-deadline.result (sym c.deadline-length.ensures ∙ c.unwrap-deadline.ensures)))
-    (c.heading-3.ensures ∙ ap (word 15) (is-count edge e is c.unwrap-branches.result (sym c.branch-count.ensures ∙ c.unwrap-branches.ensures)))
-    c.put.ensures.wrote c.put-2.ensures.wrote (c.put-row.ensures e.guard (guard-row edge e is))
-    c.put-3.ensures.wrote (c.put-row-2.ensures e.deadline (deadline-row edge e is))
-    c.put-4.ensures.wrote (c.put-branches.ensures e is)
+    (c.heading-2.ensures ∙ ap (word 14) (is_deadline edge e is c.unwrap-deadline.result (sym c.deadline_length.ensures ∙ c.unwrap-deadline.ensures)))
+    (c.heading-3.ensures ∙ ap (word 15) (is-count edge e is c.unwrap-branches.result (sym c.branch_count.ensures ∙ c.unwrap-branches.ensures)))
+    c.put.ensures.wrote c.put-2.ensures.wrote (c.put_row.ensures e.guard (guard-row edge e is))
+    c.put-3.ensures.wrote (c.put_row-2.ensures e.deadline (deadline-row edge e is))
+    c.put-4.ensures.wrote (c.put_branches.ensures e is)

@@ -11,7 +11,7 @@ pub unwrap-pair-requires : goal.unwrap-pair-requires
 unwrap-pair-requires g c =
     let branch : Answer (Branch (List ℕ)) = branch_of (edge_by_id (g.P.Part.meaning c.args.part.now) c.args.id) c.args.branch in
     let is = ok_is branch c.requires in
-    let n = pair_count branch is.0 is.1 c.unwrap-count.result (sym c.assignment-count.ensures ∙ c.unwrap-count.ensures) in
+    let n = pair_count branch is.0 is.1 c.unwrap-count.result (sym c.assignment_count.ensures ∙ c.unwrap-count.ensures) in
     rw c.assignment.ensures (pair_there branch is.0 is.1 c.loop-item.item (omega (arith, n)))
 
 pub loop-item-preserved : goal.loop-item-preserved
@@ -22,5 +22,5 @@ loop-item-preserved g c b is =
 
 pub returns : goal.returns
 returns g c b is =
-    let n = pair_count _ b is c.unwrap-count.result (sym c.assignment-count.ensures ∙ c.unwrap-count.ensures) in
+    let n = pair_count _ b is c.unwrap-count.result (sym c.assignment_count.ensures ∙ c.unwrap-count.ensures) in
     wrote_as _ _ _ _ _ _ (ap pair_words (take_all c.loop-item.item b.assignments (omega (arith, n)))) (c.loop-item.invariant b is)

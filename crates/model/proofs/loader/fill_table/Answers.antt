@@ -9,8 +9,8 @@ use Rattle.model.proofs.loader.fill_table.Goals as goal
 pub returns : goal.returns
 returns c =
     let ws = c.args.words.now in
-    let same = ap length c.deref-mut.ensures.value in
-    let long : length c.judge.new.table ≡ c.args.table.now.len = omega (arith, same, c.judge.auto.table, c.deref-mut.ensures.len) in
+    let same = ap length c.deref_mut.ensures.value in
+    let long : length c.judge.new.table ≡ c.args.table.now.len = omega (arith, same, c.judge.auto.table, c.deref_mut.ensures.len) in
     let items = with_items_is c.args.table.now c.judge.new.table long in
     record {
       verdict = subst (λ n. verdict ws n c.judge.result) same c.judge.ensures.verdict;

@@ -12,7 +12,7 @@ pub invariant_of-result : goal.invariant_of-result
 invariant_of-result c =
     let ws = vec_items c.args.words in
     let room = length (vec_items c.args.table) in
-    let t = vec_items c.fill-table.new.table in
+    let t = vec_items c.fill_table.new.table in
     let told = c.in-Ok.ensures in
     let formed : well_formed ws room (Ok tt) = subst (λ x. well_formed x room (Ok tt)) c.deref.ensures.value told.verdict.0 in
     let filled : Filled (down_in ws (records ws)) t = subst (λ x. Filled (down_in x (records x)) t) c.deref.ensures.value told.filled in (
@@ -36,7 +36,7 @@ pub returns-in-Ok : goal.returns-in-Ok
 returns-in-Ok c =
     let ws = vec_items c.args.words in
     let room = length (vec_items c.args.table) in
-    let t = vec_items c.fill-table.new.table in
+    let t = vec_items c.fill_table.new.table in
     let told = c.in-Ok.ensures in
     record {
       loading = record {
@@ -56,7 +56,7 @@ returns-in-Err c =
       loading = record {
         wrong = subst (λ x. verdict x room (Err c.in-Err.fault)) c.deref.ensures.value told.verdict;
         words = refl;
-        table = c.fill.ensures.items (λ y e. e) ∙ ap (λ n. replicate n 0) (c.fill-table.new.table.ok.0 ∙ told.kept);
+        table = c.fill.ensures.items (λ y e. e) ∙ ap (λ n. replicate n 0) (c.fill_table.new.table.ok.0 ∙ told.kept);
       };
       single = single_verdict ws room;
     }

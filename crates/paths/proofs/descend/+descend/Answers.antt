@@ -37,14 +37,14 @@ descend-requires-in-Inner t c =
     let f = shape_falls _ _ (loaded c.args.model.now) c.args.number _ c.in-Inner.ensures in
     (omega (arith, f.0, c.decreases), tt)
 
-pub under-frame-requires : goal.under-frame-requires
-under-frame-requires t c = roomy _ _ (loaded c.args.model.now) _ _ _ c.descend-in-Framed.ensures
+pub under_frame-requires : goal.under_frame-requires
+under_frame-requires t c = roomy _ _ (loaded c.args.model.now) _ _ _ c.descend-in-Framed.ensures
 
-pub under-when-requires : goal.under-when-requires
-under-when-requires t c = roomy _ _ (loaded c.args.model.now) _ _ _ c.descend-in-When.ensures
+pub under_when-requires : goal.under_when-requires
+under_when-requires t c = roomy _ _ (loaded c.args.model.now) _ _ _ c.descend-in-When.ensures
 
-pub under-urgent-requires : goal.under-urgent-requires
-under-urgent-requires t c = roomy _ _ (loaded c.args.model.now) _ _ _ c.descend-in-Urgent.ensures
+pub under_urgent-requires : goal.under_urgent-requires
+under_urgent-requires t c = roomy _ _ (loaded c.args.model.now) _ _ _ c.descend-in-Urgent.ensures
 
 pub returns-in-Nothing : goal.returns-in-Nothing
 returns-in-Nothing t c = descended _ _ (loaded c.args.model.now) c.args.number c.args.id _ None c.in-Nothing.ensures (λ k h. refl)
@@ -70,19 +70,19 @@ pub returns-in-Framed : goal.returns-in-Framed
 returns-in-Framed t c =
     let f = shape_falls _ _ (loaded c.args.model.now) c.args.number _ c.in-Framed.ensures in
     descended _ _ (loaded c.args.model.now) c.args.number c.args.id _ _ c.in-Framed.ensures
-    (λ k h. c.under-frame.ensures ∙ ap (option_map (within (c.args.number ∷ []))) (c.descend-in-Framed.ensures k (omega (arith, f.0))))
+    (λ k h. c.under_frame.ensures ∙ ap (option_map (within (c.args.number ∷ []))) (c.descend-in-Framed.ensures k (omega (arith, f.0))))
 
 pub returns-in-When : goal.returns-in-When
 returns-in-When t c =
     let f = shape_falls _ _ (loaded c.args.model.now) c.args.number _ c.in-When.ensures in
     descended _ _ (loaded c.args.model.now) c.args.number c.args.id _ _ c.in-When.ensures
-    (λ k h. c.under-when.ensures ∙ ap (option_map (under_when c.in-When.condition)) (c.descend-in-When.ensures k (omega (arith, f.0))))
+    (λ k h. c.under_when.ensures ∙ ap (option_map (under_when c.in-When.condition)) (c.descend-in-When.ensures k (omega (arith, f.0))))
 
 pub returns-in-Urgent : goal.returns-in-Urgent
 returns-in-Urgent t c =
     let f = shape_falls _ _ (loaded c.args.model.now) c.args.number _ c.in-Urgent.ensures in
     descended _ _ (loaded c.args.model.now) c.args.number c.args.id _ _ c.in-Urgent.ensures
-    (λ k h. c.under-urgent.ensures ∙ ap (option_map (under_urgent c.in-Urgent.condition)) (c.descend-in-Urgent.ensures k (omega (arith, f.0))))
+    (λ k h. c.under_urgent.ensures ∙ ap (option_map (under_urgent c.in-Urgent.condition)) (c.descend-in-Urgent.ensures k (omega (arith, f.0))))
 
 pub returns-in-Inner : goal.returns-in-Inner
 returns-in-Inner t c =

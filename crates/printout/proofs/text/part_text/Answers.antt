@@ -11,15 +11,15 @@ pub returns-in-Ok : goal.returns-in-Ok
 returns-in-Ok g c =
     let M = g.P.Part.meaning c.args.part.now in
     let told = c.in-Ok.ensures in
-    let lent = c.deref-mut.result.now in
+    let lent = c.deref_mut.result.now in
     let room : length lent ≡ c.args.room =
-    ap length (c.deref-mut.ensures.value ∙ c.in_ok-words.ensures.items-if-clones-equal (λ y e. e)) ∙ length-replicate c.args.room 0 in
+    ap length (c.deref_mut.ensures.value ∙ c.in_ok-words.ensures.items-if-clones-equal (λ y e. e)) ∙ length-replicate c.args.room 0 in
     let long : length c.list.new.words ≡ c.in_ok-words.words.len =
-    omega (arith, c.list.auto.words, ap length c.deref-mut.ensures.value, c.in_ok-words.words.ok.0) in
+    omega (arith, c.list.auto.words, ap length c.deref_mut.ensures.value, c.in_ok-words.words.ok.0) in
     let read : c.read.result.words.now ≡ c.list.new.words =
     c.read.ensures.opened ∙ (c.deref.ensures.value ∙ with_items_is c.in_ok-words.words c.list.new.words long) in
     let text = accepted_text M (length lent) c.in-Ok.counts c.list.new.words told.answer told.determined in
     let same : list_text (edges_in c.read.result.words.now) ≡ text_of M c.args.room =
     ap (λ ws. list_text (edges_in ws)) read ∙ (sym text ∙ ap (text_of M) room) in
-    IfOk-weaker c.list-text.result (λ v. vec_items v ≡ list_text (edges_in c.read.result.words.now))
-    (λ v. vec_items v ≡ text_of M c.args.room) (λ v e. e ∙ same) c.list-text.ensures
+    IfOk-weaker c.list_text.result (λ v. vec_items v ≡ list_text (edges_in c.read.result.words.now))
+    (λ v. vec_items v ≡ text_of M c.args.room) (λ v e. e ∙ same) c.list_text.ensures

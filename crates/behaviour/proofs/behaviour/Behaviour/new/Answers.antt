@@ -19,7 +19,7 @@ pub invariant_of-result : goal.invariant_of-result
 invariant_of-result c =
     let ws = vec_items c.args.model.words in (
       ap (is_place ws) (start-code ws _ _ _ c.reader.ensures c.body.ensures c.start-place.ensures) ∙ lawful_start ws _ (loaded c.args.model),
-      (c.ceilings-in-ceilings.ensures, tt),
+      (c.ceilings_in-ceilings.ensures, tt),
     )
 
 pub returns : goal.returns

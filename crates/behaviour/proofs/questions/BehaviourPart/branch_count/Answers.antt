@@ -9,5 +9,5 @@ use Rattle.behaviour.proofs.questions.BehaviourPart.branch_count.Goals as goal
 
 pub returns : goal.returns
 returns c =
-    ap (λ n. Ok n) (c.branch-count.ensures ∙ sym (length-map (outcomes_of (sheet_of c.args.self.now) c.in_ok-edge.edge) (leading_to code_of)))
+    ap (λ n. Ok n) (c.branch_count.ensures ∙ sym (length-map (outcomes_of (sheet_of c.args.self.now) c.in_ok-edge.edge) (leading_to code_of)))
     ∙ sym (ap branch_count_of c.in_ok-edge.ensures.answer)

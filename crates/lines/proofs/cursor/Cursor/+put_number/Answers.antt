@@ -9,7 +9,7 @@ returns t c =
     elim c.if-number-ge10.branch [
       | then_number_ge10 w ↦
           put_as _ _ _ _ _ _ (sym (decimal_step c.args.number w.if-number-ge10.true (omega arith)))
-          (put_then _ _ _ _ _ _ _ _ w.put-number.ensures (put_from _ _ _ _ _ _ _ w.self-is w.out-is c.put.ensures))
+          (put_then _ _ _ _ _ _ _ _ w.put_number.ensures (put_from _ _ _ _ _ _ _ w.self-is w.out-is c.put.ensures))
       | else_number_ge10 w ↦
           put_as _ _ _ _ _ _ (ap (λ (n : ℕ). (48 + n) ∷ []) (mod-eq_of_lt w.if-number-ge10.false) ∙ sym (decimal_digit c.args.number w.if-number-ge10.false))
           (put_from _ _ _ _ _ _ _ w.self-is w.out-is c.put.ensures)

@@ -6,4 +6,4 @@ use Rattle.listed.proofs.edges.ListedEdge.branch_count.Goals as goal
 pub returns : goal.returns
 returns c =
     let ws : List ℕ = c.args.self.words.now in
-    c.branch-count.ensures ∙ sym (count_items branches_in branch_in behind_branch (λ _. refl) (λ _ _. refl) (branch_total ws) (branch_words_in ws))
+    c.branch_count.ensures ∙ sym (count_items branches_in branch_in behind_branch (λ _. refl) (λ _ _. refl) (branch_total ws) (branch_words_in ws))
