@@ -53,11 +53,11 @@ no_header M ws none = lt-leb _ _ (omega arith)
 empty-counts : (M : Meaning) (ws : List ℕ) → length ws ≡ 0 → record { edges = 0; words = 0 } ≡ counted (length ws) (edges_here M)
 empty-counts M ws none = rw none refl
 
-pub returns-in-default : goal.returns-in-default
-returns-in-default g c =
+pub returns-in_default : goal.returns-in_default
+returns-in_default g c =
     let M : Meaning = g.P.Part.meaning c.args.part.now in
     let ws : List ℕ = c.args.words.now in
-    let none : length ws ≡ 0 = c.in-default.ensures in
+    let none : length ws ≡ 0 = c.in_default.ensures in
     let sized : M.automaton.ceilings.edges ≡ 0 → ⊥ = λ h. c.if-ceilings-eq0.false (ap (λ x. x.edges) c.ceilings.ensures ∙ h) in
     let is_list : ws ≡ listed (length ws) (edges_here M) = nil_from_length ws none ∙ (rw none refl) in
     record {

@@ -15,22 +15,17 @@ invariant_of-result c =
     let t = vec_items c.fill_table.new.table in
     let told = c.in-Ok.ensures in
     let formed : well_formed ws room (Ok tt) = subst (λ x. well_formed x room (Ok tt)) c.deref.ensures.value told.verdict.0 in
-    let filled : Filled (down_in ws (records ws)) t = subst (λ x. Filled (down_in x (records x)) t) c.deref.ensures.value told.filled in (
-      headed ws room formed,
-      (
-        counted ws room formed,
-        (
-          told.kept ∙ tabled ws room formed,
-          (
-            bodied ws room formed,
-            (
-              worded ws room formed,
-              (unrepeated ws room formed, (bounded ws room formed, (measured ws t filled, (limited ws t filled, tt)))),
-            ),
-          ),
-        ),
-      ),
-    )
+    let filled : Filled (down_in ws (records ws)) t = subst (λ x. Filled (down_in x (records x)) t) c.deref.ensures.value told.filled in record {
+      headed = headed ws room formed;
+      counted = counted ws room formed;
+      tabled = told.kept ∙ tabled ws room formed;
+      bodied = bodied ws room formed;
+      worded = worded ws room formed;
+      unrepeated = unrepeated ws room formed;
+      bounded = bounded ws room formed;
+      measured = measured ws t filled;
+      limited = limited ws t filled;
+    }
 
 pub returns-in-Ok : goal.returns-in-Ok
 returns-in-Ok c =

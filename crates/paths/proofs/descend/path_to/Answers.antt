@@ -7,8 +7,8 @@ use Rattle.paths.proofs.Loading.{loaded}
 use Rattle.paths.proofs.Arriving.{extended, from_words, from_nothing, head_frames}
 use Rattle.paths.proofs.descend.path_to.Goals as goal
 
-pub returns-in-default : goal.returns-in-default
-returns-in-default c = from_nothing _ _ c.words.result.now _ c.args.id c.words.ensures (omega (arith, ltb-false, ltb-true))
+pub returns-in_default : goal.returns-in_default
+returns-in_default c = from_nothing _ _ c.words.result.now _ c.args.id c.words.ensures (omega (arith, ltb-false, ltb-true))
 
 pub extend-requires : goal.extend-requires
 extend-requires c =
