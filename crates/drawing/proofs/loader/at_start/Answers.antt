@@ -4,13 +4,13 @@ use Rattle.drawing.specs.Ranges.{range_of, Rising}
 use Rattle.drawing.specs.Facts.{headed, counted, alphabetical, tabled, start_drawn, rising}
 use Rattle.drawing.proofs.loader.at_start.Goals as goal
 
-pub rows-at-rows-requires : goal.rows-at-rows-requires
-rows-at-rows-requires c =
+pub rows_at-rows-requires : goal.rows_at-rows-requires
+rows_at-rows-requires c =
     let ws = vec_items c.args.words in
     (subst Rising (sym (c.new-table.ensures ∙ c.deref.ensures.value)) (rising ws (tabled ws c.requires)), lit< tt)
 
-pub ceilings-of-ceilings-requires : goal.ceilings-of-ceilings-requires
-ceilings-of-ceilings-requires c =
+pub ceilings_of-ceilings-requires : goal.ceilings_of-ceilings-requires
+ceilings_of-ceilings-requires c =
     let ws = vec_items c.args.words in
     subst Rising (sym (c.new-table.ensures ∙ c.deref.ensures.value)) (rising ws (tabled ws c.requires))
 

@@ -3,8 +3,8 @@ use Rattle.drawing.specs.Checks.{verdict}
 use Rattle.drawing.specs.Facts.{single_verdict}
 use Rattle.drawing.proofs.loader.draw.Goals as goal
 
-pub at-start-requires : goal.at-start-requires
-at-start-requires c =
+pub at_start-requires : goal.at_start-requires
+at_start-requires c =
     subst (λ ws. verdict ws (Ok tt)) (c.new.ensures ∙ c.deref.ensures.value) c.in-Ok.ensures
 
 pub returns-in-Ok : goal.returns-in-Ok

@@ -6,11 +6,11 @@ use Rattle.drawing.specs.declared.table.Row.{Row}
 use Rattle.drawing.specs.Sweeping.{before_more, row_clear, row_refused}
 use Rattle.drawing.proofs.rows.check_rows.Goals as goal
 
-pub returns-in_err-check-row : goal.returns-in_err-check-row
-returns-in_err-check-row c =
-    let p = err_from_is_err_and c.from-residual.result c.from-residual.ensures.1 in
+pub returns-in_err-check_row : goal.returns-in_err-check_row
+returns-in_err-check_row c =
+    let p = err_from_is_err_and c.from_residual.result c.from_residual.ensures.1 in
     rw (p.1, p.2)
-    (row_refused _ c.loop-number.number _ _ c.loop-number.invariant.1 c.row-row.ensures _ (omega arith) c.loop-number.invariant.0 c.in_err-check-row.ensures)
+    (row_refused _ c.loop-number.number _ _ c.loop-number.invariant.1 c.row-row.ensures _ (omega arith) c.loop-number.invariant.0 c.in_err-check_row.ensures)
 
 pub loop-number-preserved : goal.loop-number-preserved
 loop-number-preserved c =

@@ -25,16 +25,16 @@ ended-first m (suc n) (w ∷ ws) is some =
 pub returns-then-not-is_empty : goal.returns-then-not-is_empty
 returns-then-not-is_empty c =
     let ws : List ℕ = c.args.words.now in
-    let some : length ws ≡ 0 → ⊥ = λ e. eqb-false _ _ (sym c.if-not-is_empty.ensures) (ap length c.zero-from.ensures ∙ (length-zeroed _ ws ∙ e)) in
+    let some : length ws ≡ 0 → ⊥ = λ e. eqb-false _ _ (sym c.if-not-is_empty.ensures) (ap length c.zero_from.ensures ∙ (length-zeroed _ ws ∙ e)) in
     record {
       counts = refl;
-      list = rw (c.zero-from.ensures, c.heading.ensures) (ended-first c.args.self c.args.self.end ws refl some);
+      list = rw (c.zero_from.ensures, c.heading.ensures) (ended-first c.args.self c.args.self.end ws refl some);
     }
 
 pub returns-else-not-is_empty : goal.returns-else-not-is_empty
 returns-else-not-is_empty c =
     let ws : List ℕ = c.args.words.now in
-    let none : ws ≡ [] = nil_from_length ws (sym (length-zeroed c.args.self.end ws) ∙ (ap length (sym c.zero-from.ensures) ∙ eqb-true _ _ (sym c.if-not-is_empty.ensures))) in
+    let none : ws ≡ [] = nil_from_length ws (sym (length-zeroed c.args.self.end ws) ∙ (ap length (sym c.zero_from.ensures) ∙ eqb-true _ _ (sym c.if-not-is_empty.ensures))) in
     record {
       counts = refl;
       list = nil_from_length _ (eqb-true _ _ (sym c.if-not-is_empty.ensures)) ∙ sym (ap (ended c.args.self) none);

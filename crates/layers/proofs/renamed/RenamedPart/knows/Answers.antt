@@ -4,14 +4,14 @@ use Rattle.layers.specs.Entries.{entries_of}
 use Rattle.layers.specs.Renamings.{is_source}
 use Rattle.layers.proofs.Sweeps.{other_target, unknown_source, known_source_lem, no_source, known_by_pair, not-kept, known_by_none}
 use Rattle.layers.proofs.renamed.RenamedPart.knows.Goals as goal
-use Rattle.layers.proofs.renamed.RenamedPart.knows.Goals.{else-pair-action-via-then-pair-action+in_ok-knows+else-branch, else-pair-action-via-else-pair-action, else-own-via-then-own+else-not-is-source, else-own-via-else-own}
+use Rattle.layers.proofs.renamed.RenamedPart.knows.Goals.{else-pair-action-via-then-pair-action+in_ok-knows+else-branch, else-pair-action-via-else-pair-action, else-own-via-then-own+else-not-is_source, else-own-via-else-own}
 
 pub returns-then-branch : goal.returns-then-branch
 returns-then-branch g c =
     let M = g.P.Part.meaning c.args.self.now.part in
     let qs = c.pairs-pair-items.result.now in
     let a = c.args.action in
-    known_by_pair M (entries_of c.args.self.now.table.pairs) qs a c.in_ok-own.own_val c.in_ok-own.ensures c.pairs-pair-items.ensures c.if-not-is-observable.ensures
+    known_by_pair M (entries_of c.args.self.now.table.pairs) qs a c.in_ok-own.own_val c.in_ok-own.ensures c.pairs-pair-items.ensures c.if-not-is_observable.ensures
     (known_source_lem M qs c.loop-pair.pair-index a c.loop-pair.invariant c.in_ok-knows.field-0 c.loop-pair-test.true c.if-pair-action.true c.in_ok-knows.ensures c.if-branch.true)
 
 pub loop-pair-preserved : goal.loop-pair-preserved
@@ -33,7 +33,7 @@ returns g c =
     let own = c.in_ok-own.own_val in
     known_by_none M ps qs a own c.in_ok-own.ensures c.pairs-pair-items.ensures
     (elim c.else-own.branch [
-      | else-own-via-then-own+else-not-is-source w ↦ not-kept M ps qs a own c.in_ok-own.ensures c.pairs-pair-items.ensures w.is-source.result w.is-source.ensures w.if-not-is-source.false
+      | else-own-via-then-own+else-not-is_source w ↦ not-kept M ps qs a own c.in_ok-own.ensures c.pairs-pair-items.ensures w.is_source.result w.is_source.ensures w.if-not-is_source.false
       | else-own-via-else-own w ↦ and_left own (not (is_source ps a)) w.if-own.false
     ])
     (no_source M qs c.loop-pair.pair-index a c.loop-pair.invariant c.loop-pair-test.false)
