@@ -11,7 +11,7 @@ use Rattle.layers.specs.Extensions.{member, observed}
 use Rattle.layers.specs.Tables.{capacity, pushed}
 
 -- the answer of a search
-pub found-member : (xs ys : List ℕ) (a : ℕ) (r : Bool) → ys ≡ xs → IsAnyAnswer (λ y t. Decides t (y ≡ a)) ys r → r ≡ member xs a
+pub found-member : (xs ys : List ℕ) (a : ℕ) (r : Bool) → ys ≡ xs → IsAnyAnswer (λ y t. eqb y a ≡ t) ys r → r ≡ member xs a
 found-member xs ys a r e h =
     same_from_decides r (member ys a) (contains_decides eqb Decides-eqb ys a r h)
     (Decides-by_or (λ x. eqb x a) (λ x. x ≡ a) (λ zs. member zs a) (λ x. Decides-eqb x a) refl (λ _ _. refl) ys)

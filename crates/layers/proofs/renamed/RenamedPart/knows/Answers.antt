@@ -11,7 +11,7 @@ returns-then-branch g c =
     let M = g.P.Part.meaning c.args.self.now.part in
     let qs = c.pairs-pair-items.result.now in
     let a = c.args.action in
-    known_by_pair M (entries_of c.args.self.now.table.pairs) qs a c.in_ok-own.own_val c.in_ok-own.ensures c.pairs-pair-items.ensures c.if-not-is_observable.ensures
+    known_by_pair M (entries_of c.args.self.now.table.pairs) qs a c.in_ok-own.own c.in_ok-own.ensures c.pairs-pair-items.ensures c.if-not-is_observable.ensures
     (known_source_lem M qs c.loop-pair.pair-index a c.loop-pair.invariant c.in_ok-knows.field-0 c.loop-pair-test.true c.if-pair-action.true c.in_ok-knows.ensures c.if-branch.true)
 
 pub loop-pair-preserved : goal.loop-pair-preserved
@@ -30,7 +30,7 @@ returns g c =
     let ps = entries_of c.args.self.now.table.pairs in
     let qs = c.pairs-pair-items.result.now in
     let a = c.args.action in
-    let own = c.in_ok-own.own_val in
+    let own = c.in_ok-own.own in
     known_by_none M ps qs a own c.in_ok-own.ensures c.pairs-pair-items.ensures
     (elim c.else-own.branch [
       | else-own-via-then-own+else-not-is_source w ↦ not-kept M ps qs a own c.in_ok-own.ensures c.pairs-pair-items.ensures w.is_source.result w.is_source.ensures w.if-not-is_source.false
