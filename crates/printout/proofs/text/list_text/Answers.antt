@@ -21,6 +21,6 @@ returns-in-Err c =
     let es = edges_in c.args.list.words.now in
     let why = c.in-Err.why in
     let room : length c.deref_mut.result.now ≡ line_room =
-    ap length (c.deref_mut.ensures.value ∙ c.in_ok-line.ensures.items-if-clones-equal (λ y e. e)) ∙ length-replicate {A = ℕ} line_room 0 in
+    ap length (c.deref_mut.ensures.value ∙ c.in_ok-line.ensures.items_if_clones_equal (λ y e. e)) ∙ length-replicate {A = ℕ} line_room 0 in
     IfOk-weaker c.explain.result (λ v. Explains why (vec_items v)) (λ v. vec_items v ≡ list_text es)
     (λ v. explained es (length c.deref_mut.result.now) (vec_items c.new-text.result) (vec_items c.put_list.new.text) (vec_items v) why room c.in-Err.ensures) c.explain.ensures

@@ -13,7 +13,7 @@ returns-in-Ok g c =
     let told = c.in-Ok.ensures in
     let lent = c.deref_mut.result.now in
     let room : length lent ≡ c.args.room =
-    ap length (c.deref_mut.ensures.value ∙ c.in_ok-words.ensures.items-if-clones-equal (λ y e. e)) ∙ length-replicate c.args.room 0 in
+    ap length (c.deref_mut.ensures.value ∙ c.in_ok-words.ensures.items_if_clones_equal (λ y e. e)) ∙ length-replicate c.args.room 0 in
     let long : length c.list.new.words ≡ c.in_ok-words.words.len =
     omega (arith, c.list.auto.words, ap length c.deref_mut.ensures.value, c.in_ok-words.words.ok.0) in
     let read : c.read.result.words.now ≡ c.list.new.words =

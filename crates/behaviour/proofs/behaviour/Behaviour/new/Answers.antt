@@ -17,10 +17,10 @@ start-code ws rs code r same r_is code_is =
 
 pub invariant_of-result : goal.invariant_of-result
 invariant_of-result c =
-    let ws = vec_items c.args.model.words in (
-      ap (is_place ws) (start-code ws _ _ _ c.reader.ensures c.body.ensures c.start-place.ensures) ∙ lawful_start ws _ (loaded c.args.model),
-      (c.ceilings_in-ceilings.ensures, tt),
-    )
+    let ws = vec_items c.args.model.words in record {
+      stands = ap (is_place ws) (start-code ws _ _ _ c.reader.ensures c.body.ensures c.start-place.ensures) ∙ lawful_start ws _ (loaded c.args.model);
+      told = c.ceilings_in-ceilings.ensures;
+    }
 
 pub returns : goal.returns
 returns c =
