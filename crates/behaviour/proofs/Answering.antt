@@ -1,5 +1,5 @@
 -- From what the code holds to what a question answers.
-use Rattle.std.proofs.Common.{◌≡◌, ℕ, zero, suc, ◌+◌, ◌-◌, ◌*◌, ◌/◌, ◌%◌, ◌<◌, ◌≤◌, Bool, true, false, cond, eqb, List, [], ◌∷◌, ◌++◌, map, reverse, length, get_or, drop, Some, None, Ok, Err, Option, Result, sym, refl, ap, ◌∙◌, subst, arith}
+use Rattle.std.proofs.Common.{◌≡◌, ℕ, zero, suc, ◌+◌, ◌-◌, ◌*◌, ◌/◌, ◌%◌, ◌<◌, ◌≤◌, Bool, cond, eqb, List, [], ◌∷◌, map, reverse, length, get_or, drop, Some, None, Ok, Err, Option, sym, refl, ap, ◌∙◌, subst, arith}
 use Rattle.std.proofs.ByRecursion.{All-get_or}
 use Rattle.std.proofs.lemmas.List.{length-map, length-reverse, get_or-reverse, get_or-map}
 use Rattle.std.proofs.lemmas.Option.{slice_get-get_or, slice_get_past}
@@ -14,23 +14,22 @@ use Rattle.sheet.specs.declared.reader.Record.{Record}
 use Rattle.sheet.specs.Layout.{urge, record_at}
 use Rattle.sheet.specs.Chains.{chain, survey_of}
 use Rattle.rules.specs.Descents.{Path as Way, path_to, path_edge, urging}
-use Rattle.rules.specs.Places.{Head as Top, failed, behaviour, Place, done, running, beyond, head_word, code_of}
-use Rattle.rules.specs.Slots.{edge_at}
-use Rattle.part.specs.Automata.{Meaning, edge_here, ids_of}
+use Rattle.rules.specs.Places.{Head as Top, failed, behaviour, Place, running, beyond, head_word, code_of}
+use Rattle.part.specs.Automata.{edge_here, ids_of}
 use Rattle.part.specs.Ids.{or_else, least_occupied}
-use Rattle.part.specs.Questions.{Answer, unless_oversized, found, edge_by_id, branch_of, assigning}
+use Rattle.part.specs.Questions.{Answer, unless_oversized, found, edge_by_id, branch_of}
 use Rattle.part.specs.declared.Ceilings.{Ceilings}
 use Rattle.paths.specs.Paths.{words_of, code_words, head_of, path_of}
 use Rattle.paths.specs.Sheets.{assignment_at, term_at, span_at}
 use Rattle.paths.specs.declared.path.Head.{Head}
 use Rattle.paths.specs.declared.path.Path.{Path}
-use Rattle.paths.proofs.Loading.{Loaded, loaded}
+use Rattle.paths.proofs.Loading.{loaded}
 use Rattle.extent.specs.Bounds.{greatest_span}
 use Rattle.edges.specs.Edges.{edge_of, outcomes_of, branch_from}
 use Rattle.edges.specs.declared.edge.Branch.{Branch as OwnBranch}
 use Rattle.edges.specs.declared.edge.Edge.{Edge as OwnEdge}
 use Rattle.edges.specs.declared.frame.Goal.{Goal}
-use Rattle.edges.specs.declared.frame.Goal.TheVariants.{Done, At}
+use Rattle.edges.specs.declared.frame.Goal.TheVariants.{At}
 use Rattle.edges.specs.Frames.{standing}
 use Rattle.edges.proofs.Outcomes.{nth_map}
 use Rattle.behaviour.specs.Automata.{coded}

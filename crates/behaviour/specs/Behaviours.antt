@@ -2,7 +2,7 @@
 --
 -- Derived: the edges where it stands are exactly the derivable ones, one for each derivation, in order.
 use Rattle.std.specs.Prelude.{◌≡◌, ℕ, List, map, Some, Ok, vec_items}
-use Rattle.words.specs.Edges.{Branch, Edge, leading_to}
+use Rattle.words.specs.Edges.{Edge, leading_to}
 use Rattle.sheet.specs.Layout.{urge}
 use Rattle.rules.specs.Descents.{path_to, path_edge}
 use Rattle.rules.specs.Exactly.{Exactly}

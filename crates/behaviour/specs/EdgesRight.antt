@@ -1,14 +1,14 @@
 -- What holds of every edge at the end of a path: its action is known, its deadline is a term, its branches are few,
 -- have weights and lead to places.
-use Rattle.std.specs.Prelude.{◌≡◌, ℕ, zero, suc, ◌+◌, ◌*◌, ◌<◌, ◌≤◌, max, Bool, true, false, ◌||◌, ◌⊎◌, List, [], ◌∷◌, ◌++◌, map, length, Some, None, Option, ◌==◌}
+use Rattle.std.specs.Prelude.{◌≡◌, ℕ, ◌+◌, ◌*◌, ◌<◌, ◌≤◌, max, true, false, ◌||◌, List, [], ◌∷◌, ◌++◌, map, length, Some, None, Option, ◌==◌}
 use Rattle.std.proofs.Math.Path.{refl, ap}
-use Rattle.std.proofs.Common.{sym, ◌∙◌, subst, inl, inr, ⊎_elim, append_assoc, lit<, lit≤}
+use Rattle.std.proofs.Common.{sym, ◌∙◌, subst, inr, ⊎_elim, append_assoc, lit<, lit≤}
 use native.Mathlib.Omega.{arith}
-use Rattle.std.proofs.ByRecursion.{All-map, All-weaker, All-append}
-use Rattle.std.proofs.lemmas.List.{length-map, length-append}
-use Rattle.std.proofs.lemmas.Bool.{cases_lt, false≢true, eqb-true, eq-eqb, ne_eqb}
+use Rattle.std.proofs.ByRecursion.{All-map, All-weaker}
+use Rattle.std.proofs.lemmas.List.{length-map}
+use Rattle.std.proofs.lemmas.Bool.{cases_lt, false≢true, eqb-true, eq-eqb}
 use Rattle.std.specs.List.{AllByRecursion as All}
-use Rattle.words.specs.Edges.{Branch, Edge, leading_to, renamed_by}
+use Rattle.words.specs.Edges.{Branch, Edge, leading_to}
 use Rattle.words.specs.Words.{kind_of, observable, exception, breaking, failing, constant, condition, disjunction}
 use Rattle.sheet.specs.declared.step.Step.{Step}
 use Rattle.sheet.specs.declared.step.Step.TheVariants.{Stop, Act, Break, Throw, Alt, Seq, Loop, Try, When, Urgent, Call, Link}
@@ -18,8 +18,8 @@ use Rattle.sheet.specs.Chains.{chain, total_weight}
 use Rattle.rules.specs.Cuts.{Cut, cut, outcome_under, past_as}
 use Rattle.rules.specs.Descents.{Path, action_as, branches_as, leaf_action, leaf_branches, leaf_edge, path_edge, urging}
 use Rattle.rules.specs.Listing.{branches_of}
-use Rattle.rules.specs.Passing.{lone, silent}
-use Rattle.rules.specs.Places.{Head, failed, behaviour, Place, done, running, start}
+use Rattle.rules.specs.Passing.{lone}
+use Rattle.rules.specs.Places.{Head, failed, behaviour, Place, done}
 use Rattle.rules.specs.Promise.{Frames}
 use Rattle.rules.specs.Rules.{branch_of, going_on, failure}
 use Rattle.rules.specs.Terms.{Way}

@@ -1,5 +1,5 @@
 -- The laws of a part hold for every behaviour.
-use Rattle.std.specs.Prelude.{◌≡◌, ℕ, zero, suc, ◌+◌, ◌-◌, ◌<◌, ◌≤◌, max, true, List, [], ◌∷◌, ◌++◌, map, length, Some, None, sum_by, sum, Option, slice_index, refl}
+use Rattle.std.specs.Prelude.{◌≡◌, ℕ, zero, suc, ◌+◌, ◌-◌, ◌≤◌, true, List, [], ◌∷◌, map, length, Some, None, sum_by, Option, slice_index, refl}
 use Rattle.std.proofs.Common.{sym, ◌∙◌, ap, subst, zero-add}
 use native.Mathlib.Omega.{arith}
 use Rattle.std.proofs.Math.Dec.{lit<, lit≤}
@@ -17,14 +17,13 @@ use Rattle.sheet.specs.Steps.{step_at}
 use Rattle.descent.specs.Sizes.{span_of}
 use Rattle.rules.specs.Descents.{Path, arrived, within, arriving, descend, path_to, path_edge}
 use Rattle.rules.specs.Listing.{slots_at, edges_at}
-use Rattle.rules.specs.Places.{Head, failed, behaviour, Place, done, running, start, code_of}
+use Rattle.rules.specs.Places.{failed, behaviour, Place, done, running, start, code_of}
 use Rattle.rules.specs.Promise.{Frames, Slotted}
 use Rattle.rules.specs.Slots.{slot_in, edge_at, followed_by, slot_count}
 use Rattle.rules.specs.Slots.{occupied as slotted}
 use Rattle.rules.proofs.Lookups.{slots_hold_the_edges}
-use Rattle.part.specs.Automata.{Meaning}
 use Rattle.part.specs.Ids.{prefixed, occupied}
-use Rattle.part.specs.Laws.{LawfulCeilings, LawfulBranch, LawfulEdge, BranchFits, EdgeFits, PlaceFits, LawfulPlace, Lawful}
+use Rattle.part.specs.Laws.{LawfulCeilings, LawfulBranch, LawfulEdge, BranchFits, EdgeFits, LawfulPlace, Lawful}
 use Rattle.part.proofs.Occupied.{length-occupied, all_occupied}
 use Rattle.paths.specs.Places.{is_place, place_of}
 use Rattle.paths.specs.Sheets.{term_at, depth_at, span_at}

@@ -1,7 +1,7 @@
 -- The place that a branch leads to.
-use Rattle.std.specs.Prelude.{ℕ, ◌<◌, drop}
+use Rattle.std.specs.Prelude.{◌<◌, drop}
 use Rattle.std.specs.List.{AllByRecursion as All}
-use Rattle.rules.specs.Places.{Head, failed, behaviour, Place, done, running}
+use Rattle.rules.specs.Places.{failed, behaviour, Place, done, running}
 use Rattle.paths.specs.Paths.{words_of}
 use Rattle.edges.specs.Frames.{standing}
 use Rattle.edges.specs.declared.edge.Branch.{Branch}

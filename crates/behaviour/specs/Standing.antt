@@ -1,13 +1,12 @@
 -- Places whose head is a behaviour and whose frames are frames: frames and cuts lead from such places to such places,
 -- and their codes are codes of places.
-use Rattle.std.specs.Prelude.{◌≡◌, ℕ, zero, suc, ◌+◌, ◌*◌, ◌/◌, ◌%◌, ◌<◌, ◌≤◌, Bool, true, false, cond, ◌&&◌, ◌||◌, ◌⊎◌, List, [], ◌∷◌, ◌++◌, map, length, Some, None, Option, ◌==◌, ◌≢◌, nat_le, nat_lt, refl}
+use Rattle.std.specs.Prelude.{◌≡◌, ℕ, suc, ◌<◌, ◌≤◌, Bool, true, false, cond, ◌&&◌, ◌||◌, List, [], ◌∷◌, map, length, Some, None, Option, ◌==◌, ◌≢◌, nat_le, nat_lt, refl}
 use Rattle.std.proofs.Math.Path.{sym}
-use Rattle.std.proofs.Common.{◌∙◌, ap, subst, inl, inr, arith}
+use Rattle.std.proofs.Common.{◌∙◌, ap, subst, arith}
 use Rattle.std.proofs.Math.Logic.{⊎_elim}
 use Rattle.std.proofs.ByRecursion.{All-append, All-weaker}
-use Rattle.std.proofs.lemmas.List.{length-map, nil_from_length}
-use Rattle.std.proofs.lemmas.Bool.{cases_lt, false≢true, eqb-true, ne_eqb, eq-eqb, and_parts, and_from, or_cases, or_right, lt-ltb, ltb-false, le-leb, leb-true, cond-false}
-use Rattle.std.specs.Option.{option_map}
+use Rattle.std.proofs.lemmas.List.{length-map}
+use Rattle.std.proofs.lemmas.Bool.{cases_lt, false≢true, eqb-true, ne_eqb, eq-eqb, and_parts, and_from, or_right, lt-ltb, ltb-false, le-leb, leb-true, cond-false}
 use Rattle.std.specs.List.{AllByRecursion as All}
 use Rattle.words.specs.Words.{kind_of, payload_of, breaking, exception, record_word, frame_word, done as doneWord, failed as failedWord}
 use Rattle.sheet.specs.declared.step.Step.{Step}
@@ -18,7 +17,7 @@ use Rattle.rules.specs.Cuts.{Cut, cut_as, cut_or, cut, done_as, outcome_by, done
 use Rattle.rules.specs.Passing.{first_for, handler_of}
 use Rattle.rules.specs.Places.{Head, failed, behaviour, Place, done, running, start, most_frames, beyond, head_word, code_of}
 use Rattle.rules.specs.Promise.{Frames, Stands}
-use Rattle.rules.specs.Terms.{Clause, Term, Role, Onward, Again, Catching, Unframed, role_of, is_frame}
+use Rattle.rules.specs.Terms.{Clause, Role, Onward, Again, Catching, Unframed, role_of, is_frame}
 use Rattle.paths.specs.Places.{is_behaviour, is_frame_step, behaviour_at, frame_at, is_head_word, is_frame_word, are_frame_words, is_running, is_place, head_of_word, place_of}
 use Rattle.paths.specs.Sheets.{term_of, term_at}
 use Rattle.paths.proofs.Headers.{few_records}

@@ -1,4 +1,6 @@
 // A behaviour: the part that a loaded model describes.
+#![tactic(auto)]
+
 mod behaviour;
 mod here;
 mod outcome;

@@ -1,4 +1,6 @@
 // Descending through a sheet's records: no process may come back to itself, and each behaviour has a depth and a span.
+#![tactic(auto)]
+
 mod check;
 mod recursion;
 mod sizes;

@@ -1,4 +1,6 @@
 // A drawing: a part whose places and edges are written down one by one.
+#![tactic(auto)]
+
 mod alphabet;
 mod drawing;
 mod header;

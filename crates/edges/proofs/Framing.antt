@@ -1,5 +1,5 @@
 -- Frames by the steps of their records, and the first clause of a chain that catches.
-use Rattle.std.proofs.Common.{◌≡◌, ℕ, ◌+◌, ◌<◌, ◌≤◌, Bool, true, false, cond, eqb, List, [], ◌∷◌, map, length, get_or, drop, Some, None, Option, sym, refl, ap, ◌∙◌, arith}
+use Rattle.std.proofs.Common.{◌≡◌, ℕ, ◌+◌, ◌<◌, ◌≤◌, cond, eqb, List, [], map, length, get_or, drop, Some, None, Option, sym, refl, ap, ◌∙◌}
 use Rattle.std.proofs.lemmas.List.{at_drop_more, at_drop_all}
 use Rattle.std.proofs.lemmas.Bool.{eq-eqb, ne_eqb, cond-true, cond-false}
 use Rattle.words.specs.Words.{none, kind_of, exception}
@@ -9,12 +9,12 @@ use Rattle.sheet.specs.declared.step.Step.TheVariants.{Stop, Act, Break, Throw, 
 use Rattle.sheet.specs.Layout.{records, record_at}
 use Rattle.sheet.specs.Steps.{step_at}
 use Rattle.rules.specs.Passing.{first_for, handler_of}
-use Rattle.rules.specs.Cuts.{Cut, cut_as, cut_or, cut, done_as, outcome_by, done_under}
+use Rattle.rules.specs.Cuts.{cut_as, cut_or, cut, done_as, outcome_by, done_under}
 use Rattle.rules.specs.Places.{Place, done, running}
 use Rattle.rules.specs.Terms.{Clause, Term, role_of}
 use Rattle.paths.specs.Paths.{head_of}
 use Rattle.paths.specs.declared.path.Head.{Head}
-use Rattle.paths.specs.Sheets.{clause_at, clauses_from, term_of, term_at}
+use Rattle.paths.specs.Sheets.{clause_at, term_of, term_at}
 use Rattle.edges.specs.Frames.{role_by, role_from}
 use Rattle.edges.specs.declared.frame.Role.{Role}
 use Rattle.edges.proofs.Chained.{rest, rest_more}

@@ -1,10 +1,10 @@
 -- A path's edge and its branches, as the code puts them together.
-use Rattle.std.proofs.Common.{◌≡◌, ℕ, zero, suc, ◌≤◌, Bool, true, false, cond, eqb, List, [], ◌∷◌, map, length, drop, Some, None, Option, sym, refl, ap, ◌∙◌, arith}
+use Rattle.std.proofs.Common.{◌≡◌, ℕ, zero, suc, ◌≤◌, true, false, eqb, List, [], ◌∷◌, map, length, drop, Some, None, Option, sym, refl, ap, ◌∙◌}
 use Rattle.std.proofs.lemmas.List.{length-map}
-use Rattle.std.proofs.lemmas.Bool.{eq-eqb, ne_eqb, cond-true, cond-false}
+use Rattle.std.proofs.lemmas.Bool.{eq-eqb, ne_eqb}
 use Rattle.std.specs.List.{slice_get}
 use Rattle.std.specs.Option.{option_map}
-use Rattle.words.specs.Edges.{Branch, Edge, leading_to}
+use Rattle.words.specs.Edges.{Branch, leading_to}
 use Rattle.words.specs.Words.{none, payload_of, constant}
 use Rattle.sheet.specs.declared.chains.Survey.{Survey}
 use Rattle.sheet.specs.declared.reader.Record.{Record}
@@ -13,15 +13,14 @@ use Rattle.sheet.specs.Chains.{chain, survey_of}
 use Rattle.rules.specs.Cuts.{Cut, cut, outcome_under, past_as}
 use Rattle.rules.specs.Descents.{leaf_action, leaf_branches, leaf_edge, path_edge, urging}
 use Rattle.rules.specs.Places.{Place}
-use Rattle.rules.specs.Rules.{branch_of, going_on}
+use Rattle.rules.specs.Rules.{branch_of}
 use Rattle.paths.specs.Paths.{words_of, head_of, path_of}
-use Rattle.paths.specs.Sheets.{assignment_at, referred, way_at, ways_from, term_at}
+use Rattle.paths.specs.Sheets.{assignment_at, way_at, ways_from, term_at}
 use Rattle.paths.specs.declared.path.Path.{Path}
 use Rattle.paths.specs.declared.path.Head.TheVariants.{Behaviour}
 use Rattle.edges.specs.Edges.{edge_of, outcomes_of, branch_by, branch_from}
 use Rattle.edges.specs.Frames.{aim, standing, cut_from}
 use Rattle.edges.specs.Leaves.{branches_from}
-use Rattle.edges.specs.declared.edge.Branch.{Branch as OwnBranch}
 use Rattle.edges.specs.declared.edge.Edge.{Edge as OwnEdge}
 use Rattle.edges.specs.declared.frame.Goal.{Goal}
 use Rattle.edges.specs.declared.frame.Goal.TheVariants.{Done, At}

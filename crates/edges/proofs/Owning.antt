@@ -1,17 +1,14 @@
 -- The edge that a record has of its own, by the record's step.
-use Rattle.std.proofs.Common.{◌≡◌, ℕ, ◌+◌, ◌<◌, ◌≤◌, Bool, true, false, cond, eqb, List, [], ◌∷◌, map, get_or, sym, refl, ap, ◌∙◌, arith}
+use Rattle.std.proofs.Common.{◌≡◌, ℕ, Bool, true, false, cond, eqb, List, ◌∷◌, map, sym, refl, ap, ◌∙◌}
 use Rattle.std.proofs.lemmas.Bool.{eqb-true, eqb-false}
-use Rattle.words.specs.Edges.{Branch}
 use Rattle.words.specs.Words.{none}
 use Rattle.sheet.specs.declared.step.Step.{Step}
 use Rattle.sheet.specs.declared.step.Step.TheVariants.{Stop, Act, Break, Throw, Alt, Seq, Loop, Try, When, Urgent, Call, Link}
-use Rattle.sheet.specs.Layout.{records, record_at}
+use Rattle.sheet.specs.Layout.{record_at}
 use Rattle.sheet.specs.Steps.{step_at}
 use Rattle.sheet.specs.Chains.{chain}
 use Rattle.rules.specs.Descents.{action_as, branches_as, leaf_action, leaf_branches}
 use Rattle.rules.specs.Listing.{branches_of}
-use Rattle.rules.specs.Passing.{lone}
-use Rattle.rules.specs.Places.{Place, done}
 use Rattle.rules.specs.Rules.{branch_of}
 use Rattle.paths.specs.Paths.{head_of}
 use Rattle.paths.specs.Sheets.{way_at, ways_from, term_of, term_at}
@@ -19,7 +16,6 @@ use Rattle.paths.specs.declared.path.Head.{Head}
 use Rattle.paths.specs.declared.path.Head.TheVariants.{Behaviour}
 use Rattle.paths.proofs.Headers.{some_records}
 use Rattle.paths.proofs.Loading.{Loaded}
-use Rattle.edges.specs.Frames.{aim}
 use Rattle.edges.specs.Leaves.{action_by, ways_by, branches_from}
 use Rattle.edges.specs.declared.leaf.Ways.{Ways}
 use Rattle.edges.specs.declared.leaf.Ways.TheVariants.{Lone, Chain}

@@ -1,4 +1,6 @@
 // The edge at the end of a path: its action and its branches, once it has passed all frames.
+#![tactic(auto)]
+
 mod edge;
 mod frame;
 mod leaf;

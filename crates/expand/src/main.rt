@@ -1,4 +1,6 @@
 // Reads a model sheet from standard input and prints the edges at its start, or why it is refused.
+#![tactic(auto)]
+
 use report::expansion;
 use std::io::{Read, Write};
 

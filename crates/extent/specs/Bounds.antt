@@ -1,7 +1,7 @@
 -- The ceilings and the alphabet of a behaviour, over all records of its sheet, ws, with its work table, t.
 --
 -- greatest f n: the greatest of f 0 to f (n - 1), or 0. any f n: whether f holds of one of them.
-use Rattle.std.specs.Prelude.{ℕ, zero, suc, ◌+◌, max, Bool, true, false, ◌&&◌, ◌||◌, List, ◌==◌, slice_index}
+use Rattle.std.specs.Prelude.{ℕ, zero, suc, ◌+◌, max, Bool, false, ◌&&◌, ◌||◌, List, ◌==◌, slice_index}
 use Rattle.words.specs.Words.{observable}
 use Rattle.sheet.specs.declared.step.Step.{Step}
 use Rattle.sheet.specs.declared.step.Step.TheVariants.{Stop, Act, Break, Throw, Alt, Seq, Loop, Try, When, Urgent, Call, Link}

@@ -1,4 +1,6 @@
 // What holds of a model's behaviour as a whole: its places, its alphabet and its ceilings.
+#![tactic(auto)]
+
 mod bounds;
 mod place;
 

@@ -1,5 +1,5 @@
 -- Records checked one by one, four words each, are all words checked one by one.
-use Rattle.std.proofs.Common.{◌≡◌, ℕ, ◌+◌, ◌*◌, ◌/◌, ◌%◌, ◌<◌, ◌≤◌, Bool, true, false, ltb, sym, refl, subst, arith, ltb-false, ltb-true}
+use Rattle.std.proofs.Common.{◌≡◌, ℕ, ◌+◌, ◌*◌, ◌/◌, ◌%◌, ◌<◌, ◌≤◌, Bool, true, false, ltb, refl, subst, arith, ltb-false, ltb-true}
 use Rattle.words.specs.Checks.{Clear, Lowest}
 
 module _ (wrong : ℕ → ℕ → Type 0) where

@@ -3,7 +3,7 @@
 -- target: a class of records that a reference may name. field: what one word may hold.
 -- layout: the fields of a kind of record, the head's payload first.
 -- admits: whether a field of record r admits a value; a reference names a record below r.
-use Rattle.std.specs.Prelude.{◌≡◌, ℕ, ◌+◌, ◌*◌, ◌/◌, ◌%◌, Bool, true, false, cond, ◌&&◌, ◌||◌, List, ◌==◌, nat_le, nat_lt}
+use Rattle.std.specs.Prelude.{◌≡◌, ℕ, ◌+◌, ◌*◌, ◌/◌, ◌%◌, Bool, false, cond, ◌&&◌, ◌||◌, List, ◌==◌, nat_le, nat_lt}
 use Rattle.words.specs.declared.Refusal.TheVariants.{Record as Malformed}
 use Rattle.words.specs.Checks.{Check, lowest}
 use Rattle.words.specs.Words.{kind_of, payload_of, none, tau, observable, exception}

@@ -1,4 +1,6 @@
 // Whether a sheet is well formed, word by word and chain by chain.
+#![tactic(auto)]
+
 mod chains;
 mod check;
 mod field;

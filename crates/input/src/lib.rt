@@ -1,4 +1,6 @@
 // Bytes handed in, as the words of a sheet.
+#![tactic(auto)]
+
 ghost use Rattle.std.specs.Prelude.{◌≡◌, IfOk};
 ghost use Rattle.input.specs.Bytes.{words_of, byte_check};
 

@@ -1,6 +1,8 @@
 // Layers over any part: one renames its actions, one makes more actions known.
 //
 // A layer is itself a part. It knows the part below it by its meaning and its laws alone, whatever its make.
+#![tactic(auto)]
+
 mod extended;
 mod extension;
 mod pair;

@@ -3,7 +3,7 @@
 -- An action is t (tau), p (patient), i (impatient), x (exception), b (break) or e (error);
 -- a deadline's word is F, T, c (a condition), & or |;
 -- a place's word is . (done), ! (error), n (a record), / (a frame) or * (a pair, with the left length).
-use Rattle.std.specs.Prelude.{ℕ, Bool, true, false, cond, not, ◌&&◌, ◌||◌, List, [], ◌∷◌, codes, decimal, ◌==◌, slice_index}
+use Rattle.std.specs.Prelude.{ℕ, Bool, cond, not, ◌||◌, List, [], ◌∷◌, codes, decimal, ◌==◌, slice_index}
 use Prim.Native.String.{String}
 use Rattle.words.specs.Words.{kind_of, payload_of}
 use Rattle.lines.specs.declared.letters.Form.{Form}

@@ -1,4 +1,5 @@
 // The lines of a report on an ended list: its head, its edges and their branches, as bytes.
+#![tactic(auto)]
 
 mod cursor;
 mod letters;

@@ -1,8 +1,7 @@
 -- The edges and branches that a reader of an ended list stands at.
-use Rattle.std.specs.Prelude.{◌≡◌, ℕ, suc, ◌≤◌, List, length, drop}
+use Rattle.std.specs.Prelude.{◌≡◌, ℕ, suc, ◌≤◌, List, length}
 use Rattle.words.specs.Edges.{Branch, Edge}
 use Rattle.words.specs.declared.Refusal.{Refusal}
-use Rattle.words.specs.declared.Refusal.TheVariants.{NoEdge, NoBranch}
 use Rattle.lists.specs.Reading.{edge_in, edges_from, branch_in, branches_in}
 use Rattle.listed.specs.declared.edges.ListedBranch.{ListedBranch}
 use Rattle.listed.specs.declared.edges.ListedEdge.{ListedEdge}

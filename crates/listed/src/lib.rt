@@ -1,4 +1,5 @@
 // Reading an ended list, from edge to edge and from branch to branch, each once.
+#![tactic(auto)]
 
 mod edges;
 mod rows;

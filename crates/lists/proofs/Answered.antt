@@ -1,9 +1,8 @@
 -- What a part's answers tell of the edge, branch or row that they are about.
-use Rattle.std.proofs.Common.{◌≡◌, ℕ, zero, suc, ◌+◌, ◌<◌, ◌≤◌, true, false, List, [], ◌∷◌, ◌++◌, length, take, is_ok, Some, None, Ok, Err, Option, sym, refl, ap, ◌∙◌, add-one, arith}
+use Rattle.std.proofs.Common.{◌≡◌, ℕ, zero, suc, ◌+◌, ◌<◌, true, List, [], ◌∷◌, ◌++◌, length, take, is_ok, Some, None, Ok, Err, Option, refl, ap, add-one, arith}
 use Rattle.std.proofs.lemmas.Bool.{false≢true}
 use Rattle.std.specs.List.{slice_get}
-use Rattle.words.specs.Edges.{Branch, Edge}
-use Rattle.words.specs.declared.Refusal.{Refusal}
+use Rattle.words.specs.Edges.{Branch}
 use Rattle.words.specs.declared.Refusal.TheVariants.{NoItem}
 use Rattle.part.specs.Questions.{Answer, found, then, assigning, assignment_count_of, assignment_of}
 use Rattle.part.specs.declared.Assignment.{Assignment}

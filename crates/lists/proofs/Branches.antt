@@ -1,9 +1,9 @@
 -- The words of a branch and of an edge, put together from the writes that make them.
-use Rattle.std.proofs.Common.{◌≡◌, ℕ, ◌+◌, ◌*◌, List, [], ◌∷◌, ◌++◌, length, take, Some, sym, refl, ap, ◌∙◌, subst, append_assoc, append-nil, zero-add, arith}
+use Rattle.std.proofs.Common.{◌≡◌, ℕ, ◌+◌, List, [], ◌∷◌, ◌++◌, length, take, Some, sym, refl, ap, ◌∙◌, append_assoc, append-nil, zero-add}
 use Rattle.std.specs.List.{flat_map, slice_get}
 use Rattle.words.specs.Edges.{Branch, Edge}
 use Rattle.words.specs.Words.{word}
-use Rattle.lists.specs.Format.{pair_words, count_word, branch_words, edge_words, guard_heading, deadline_heading, branches_heading}
+use Rattle.lists.specs.Format.{pair_words, branch_words, edge_words, guard_heading, deadline_heading, branches_heading}
 use Rattle.lists.specs.Records.{end_of, Wrote, Put, Marked}
 use Rattle.lists.specs.declared.record.Open.{Open}
 use Rattle.lists.proofs.Answered.{take_nth}

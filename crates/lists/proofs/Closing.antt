@@ -1,16 +1,15 @@
 -- Closing the record of an edge: the edge is in the list, or the list is as it was.
-use Rattle.std.proofs.Common.{◌≡◌, ℕ, ◌+◌, ◌-◌, ◌<◌, ◌≤◌, Bool, true, false, cond, not, ◌&&◌, eqb, leb, List, [], ◌∷◌, ◌++◌, length, take, Result, sym, refl, ap, ◌∙◌, subst, append-nil, arith, length-append, length-take}
+use Rattle.std.proofs.Common.{◌≡◌, ℕ, ◌+◌, ◌-◌, ◌<◌, ◌≤◌, Bool, true, false, cond, eqb, List, [], ◌∷◌, ◌++◌, length, take, Result, sym, refl, ap, ◌∙◌, subst, append-nil, arith, length-append, length-take}
 use Rattle.std.proofs.lemmas.Bool.{le-leb, ne_eqb}
 use Rattle.std.specs.List.{flat_map}
 use Rattle.words.specs.Edges.{Edge}
 use Rattle.words.specs.declared.Refusal.{Refusal}
 use Rattle.lists.specs.Format.{edge_words}
-use Rattle.lists.specs.Records.{Progress, fitting, over, more, end_of, progress_of, Wrote, Closed, closable}
-use Rattle.lists.specs.Runs.{Added, AddedIfRoom, fits}
+use Rattle.lists.specs.Records.{fitting, over, end_of, Wrote, Closed, closable}
+use Rattle.lists.specs.Runs.{AddedIfRoom, fits}
 use Rattle.lists.specs.declared.Mark.{Mark}
 use Rattle.lists.specs.declared.record.Open.{Open}
-use Rattle.lists.proofs.Runs.{added_none}
-use Rattle.lists.proofs.Writing.{Fitted, fitted}
+use Rattle.lists.proofs.Writing.{fitted}
 
 module _ (e : Edge (List ℕ)) (m m' : Mark) (ws ws' : List ℕ) (rec rec' : Open) (r : Result (Unit {0}) Refusal)
     (lent : rec.mark.now ≡ m) (start : rec.start ≡ m.end) (unfilled : rec.full ≡ false)

@@ -1,12 +1,12 @@
 -- A lawful part's edges can be told in a list, so that its list reads as what was written.
-use Rattle.std.proofs.Common.{◌≡◌, ℕ, zero, suc, ◌-◌, ◌<◌, ◌≤◌, Bool, true, false, cond, leb, List, [], ◌∷◌, length, replicate, sym, refl, ap, ◌∙◌, arith}
+use Rattle.std.proofs.Common.{◌≡◌, ℕ, zero, suc, ◌-◌, ◌<◌, ◌≤◌, Bool, true, false, cond, leb, List, [], ◌∷◌, length, refl, ap, ◌∙◌, arith}
 use Rattle.std.proofs.ByRecursion.{All-weaker}
 use Rattle.std.proofs.lemmas.List.Sums.{sum-map}
 use Rattle.std.proofs.lemmas.Bool.{ne_eqb}
 use Rattle.std.specs.List.{AllByRecursion as All}
 use Rattle.words.specs.Edges.{Branch, Edge}
 use Rattle.part.specs.Automata.{Meaning, edges_here}
-use Rattle.part.specs.Laws.{Lawful, LawfulCeilings, LawfulEdge, LawfulBranch, EdgeFits, BranchFits}
+use Rattle.part.specs.Laws.{Lawful, LawfulCeilings, LawfulEdge, EdgeFits, BranchFits}
 use Rattle.part.specs.declared.Ceilings.{Ceilings}
 use Rattle.lists.specs.Format.{edge_words}
 use Rattle.lists.specs.Listing.{leading, written, listed, buffer_after}

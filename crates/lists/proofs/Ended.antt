@@ -1,13 +1,12 @@
 -- A list that was begun, filled with the edges that have room, and ended.
-use Rattle.std.proofs.Common.{◌≡◌, ℕ, zero, suc, ◌+◌, ◌-◌, ◌<◌, ◌≤◌, Bool, true, false, cond, leb, List, [], ◌∷◌, ◌++◌, length, take, replicate, sym, refl, ap, ◌∙◌, subst, arith}
+use Rattle.std.proofs.Common.{◌≡◌, ℕ, suc, ◌+◌, ◌-◌, ◌<◌, Bool, true, false, leb, List, [], ◌∷◌, ◌++◌, length, take, sym, refl, ◌∙◌, subst, arith}
 use Rattle.std.proofs.lemmas.Bool.{le-leb, lt-leb, leb-true, leb-false}
 use Rattle.std.specs.List.{flat_map}
 use Rattle.words.specs.Edges.{Edge}
-use Rattle.lists.specs.Endings.{Begun, ended, counts_of, zeroed_from}
-use Rattle.lists.specs.Format.{header, edge_words, list_words}
+use Rattle.lists.specs.Endings.{Begun, ended, counts_of}
+use Rattle.lists.specs.Format.{edge_words, list_words}
 use Rattle.lists.specs.Listing.{leading, listed, counted}
 use Rattle.lists.specs.Runs.{Added}
-use Rattle.lists.specs.declared.Counts.{Counts}
 use Rattle.lists.specs.declared.Mark.{Mark}
 
 -- the words behind the header

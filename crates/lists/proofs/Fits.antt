@@ -1,15 +1,13 @@
 -- Every number that a list has to tell of a lawful part's edge has room in a word's payload.
-use Rattle.std.proofs.Common.{◌≡◌, ℕ, zero, suc, ◌+◌, ◌-◌, ◌<◌, ◌≤◌, Bool, true, false, eqb, ◌⊎◌, List, [], ◌∷◌, length, Some, None, Ok, Err, sum_by, Option, sym, refl, ap, ◌∙◌, subst, inl, inr, arith}
+use Rattle.std.proofs.Common.{◌≡◌, ℕ, zero, suc, ◌+◌, ◌<◌, ◌≤◌, Bool, true, false, eqb, ◌⊎◌, List, [], ◌∷◌, length, Some, None, Ok, Err, sum_by, Option, refl, subst, inl, inr, arith}
 use Rattle.std.proofs.lemmas.List.Sums.{sum_by-cons, sum-map}
 use Rattle.std.proofs.lemmas.Bool.{eqb-false}
 use Rattle.std.specs.List.{AllByRecursion as All, slice_get}
 use Rattle.words.specs.Edges.{Branch, Edge}
-use Rattle.words.specs.declared.Refusal.{Refusal}
 use Rattle.words.specs.declared.Refusal.TheVariants.{NoEdge, NoBranch}
 use Rattle.part.specs.Automata.{Meaning, edges_here, edge_here, ids_of}
-use Rattle.part.specs.Ids.{occupied}
-use Rattle.part.specs.Laws.{Lawful, LawfulEdge, LawfulBranch, EdgeFits, BranchFits, PlaceFits, total_weight}
-use Rattle.part.specs.Questions.{Answer, found, then, edge_by_id, branch_of, guard_length_of, deadline_length_of, branch_count_of, assignment_count_of, outcome_length_of}
+use Rattle.part.specs.Laws.{Lawful, LawfulEdge, LawfulBranch, EdgeFits, BranchFits, PlaceFits}
+use Rattle.part.specs.Questions.{Answer, found, edge_by_id, branch_of, guard_length_of, deadline_length_of, branch_count_of, assignment_count_of, outcome_length_of}
 use Rattle.part.proofs.Occupied.{occupied_has}
 
 -- an edge that is there stands at its id, and the part is not oversized

@@ -1,12 +1,12 @@
 -- Marking the count of a branch's assignments after its pairs are written.
-use Rattle.std.proofs.Common.{◌≡◌, ℕ, zero, suc, ◌+◌, ◌-◌, ◌*◌, ◌<◌, ◌≤◌, Bool, true, false, cond, ltb, leb, ◌⊎◌, List, [], ◌∷◌, ◌++◌, length, take, drop, set, sym, refl, ap, ◌∙◌, subst, inl, inr, append_assoc, append-nil, arith, length-append, take-append-drop, length-take}
-use Rattle.std.proofs.lemmas.List.{set_at, take_at, drop_at, take-set-le, take-take, take_all, drop_all}
+use Rattle.std.proofs.Common.{◌≡◌, ℕ, suc, ◌+◌, ◌-◌, ◌*◌, ◌<◌, ◌≤◌, Bool, true, false, cond, ltb, leb, ◌⊎◌, List, [], ◌∷◌, ◌++◌, length, take, drop, set, sym, refl, ap, ◌∙◌, inl, inr, append_assoc, append-nil, arith, length-append, take-append-drop, length-take}
+use Rattle.std.proofs.lemmas.List.{set_at, take_at, drop_at, take-take, take_all, drop_all}
 use Rattle.std.proofs.lemmas.Bool.{cases_lt, cond_both, le-leb, lt-ltb}
 use Rattle.words.specs.Words.{word}
 use Rattle.lists.specs.Format.{pair_words, clashing, count_word}
-use Rattle.lists.specs.Records.{Progress, fitting, over, more, end_of, progress_of, Wrote, Marked}
+use Rattle.lists.specs.Records.{more, end_of, progress_of, Wrote, Marked}
 use Rattle.lists.specs.declared.record.Open.{Open}
-use Rattle.lists.proofs.Writing.{Fitted, fitted, over_alike}
+use Rattle.lists.proofs.Writing.{fitted, over_alike}
 
 pub length_pairs : (ps : List (ℕ × ℕ)) → length (pair_words ps) ≡ 2 * length ps
 length_pairs [] = refl

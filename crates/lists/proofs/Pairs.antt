@@ -1,8 +1,8 @@
 -- A row of words taken apart into pairs.
-use Rattle.std.proofs.Common.{◌≡◌, ℕ, zero, suc, ◌+◌, ◌-◌, ◌<◌, ◌≤◌, Bool, true, false, not, ◌&&◌, ◌||◌, eqb, List, [], ◌∷◌, length, get_or, take, drop, sym, refl, ap, ◌∙◌, arith}
+use Rattle.std.proofs.Common.{◌≡◌, ℕ, ◌-◌, ◌<◌, ◌≤◌, Bool, true, false, not, ◌&&◌, eqb, List, [], ◌∷◌, length, get_or, take, drop, sym, refl, ap, arith}
 use Rattle.std.proofs.lemmas.List.{take_all}
 use Rattle.std.proofs.lemmas.Bool.{eq-eqb, ne_eqb}
-use Rattle.lists.specs.Format.{pair_words, clashes_with, clashing}
+use Rattle.lists.specs.Format.{pair_words, clashes_with}
 
 pub record Two (ws : List ℕ) (ps : List (ℕ × ℕ)) : Type 0 where
   pub first : ℕ × ℕ

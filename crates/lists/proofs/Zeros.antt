@@ -1,5 +1,5 @@
 -- Filling the rest of a slice with zeros.
-use Rattle.std.proofs.Common.{◌≡◌, ℕ, ◌-◌, ◌≤◌, List, [], length, take, drop, replicate, sym, refl, ap, ◌∙◌, append-nil, arith, length-drop}
+use Rattle.std.proofs.Common.{◌≡◌, ℕ, ◌-◌, ◌≤◌, List, [], length, take, drop, replicate, refl, ap, ◌∙◌, append-nil, arith, length-drop}
 use borrow.Rule.Slice.PartMut.{put_mid}
 use Rattle.std.proofs.lemmas.List.{drop_all, take_rest, take_all}
 use Rattle.lists.specs.Endings.{zeroed_from}

@@ -1,4 +1,6 @@
 // Lists of edges: written by records that undo themselves unless they are closed, and read once they are ended.
+#![tactic(auto)]
+
 ghost use Rattle.std.specs.Prelude.{◌<◌};
 ghost use Rattle.lists.specs.Format.{payloads};
 

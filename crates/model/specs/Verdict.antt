@@ -2,7 +2,7 @@
 --
 -- verdict: the checks of form, then those of descent; the first fault in their order, at its lowest place.
 -- loading: a model of these very words where the verdict is good; else the fault, the words as they were, and the table all 0.
-use Rattle.std.specs.Prelude.{◌≡◌, ℕ, List, length, replicate, Ok, Err, vec_items, Result}
+use Rattle.std.specs.Prelude.{◌≡◌, ℕ, List, replicate, Ok, Err, vec_items, Result}
 use Rattle.words.specs.Checks.{Check, ◌then◌}
 use Rattle.sheet.specs.Layout.{records}
 use Rattle.form.specs.WellFormed.{well_formed}

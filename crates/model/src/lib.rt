@@ -1,4 +1,6 @@
 // A loaded model: a sheet that was found right, with the depth and the span of each behaviour.
+#![tactic(auto)]
+
 ghost use Rattle.std.specs.Prelude.{◌≡◌, ◌+◌, ◌*◌, length};
 ghost use Rattle.sheet.specs.Layout.{processes, records};
 ghost use Rattle.model.specs.Loaded.{Headed, Bodied, Worded, Unrepeated, Bounded, Measured, Limited};

@@ -1,11 +1,9 @@
 -- What an answer of `next` tells of the edges where a part stands.
-use Rattle.std.proofs.Common.{◌≡◌, ℕ, zero, suc, ◌+◌, ◌-◌, ◌<◌, ◌≤◌, Bool, true, false, cond, eqb, List, [], ◌∷◌, length, Some, None, Ok, Err, Option, Result, sym, refl, ap, ◌∙◌, arith}
-use Rattle.std.proofs.lemmas.Bool.{eqb-true, eqb-false, eq-eqb, ne_eqb}
-use Rattle.words.specs.declared.Refusal.{Refusal}
-use Rattle.words.specs.declared.Refusal.TheVariants.{Oversized}
+use Rattle.std.proofs.Common.{◌≡◌, ℕ, ◌-◌, ◌<◌, Bool, true, false, eqb, [], Some, None, Ok, refl, arith}
+use Rattle.std.proofs.lemmas.Bool.{eqb-false, ne_eqb}
 use Rattle.part.specs.Automata.{Meaning, edges_here, edge_here, ids_of}
 use Rattle.part.specs.Ids.{occupied, occupied_ids}
-use Rattle.part.specs.Laws.{Lawful, PlaceFits}
+use Rattle.part.specs.Laws.{Lawful}
 use Rattle.part.specs.Questions.{Answer, unless_oversized, next_of}
 use Rattle.part.proofs.Occupied.{Hop, hop, end_of_hops}
 

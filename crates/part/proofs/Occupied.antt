@@ -1,7 +1,7 @@
 -- Ids and what stands at them: lemmas for makes, and that hopping by `least_occupied` meets exactly what `occupied` lists.
-use Rattle.std.proofs.Common.{◌≡◌, ℕ, zero, suc, ◌+◌, ◌-◌, ◌<◌, ◌≤◌, ◌⊎◌, List, [], ◌∷◌, ◌++◌, length, Some, None, Option, sym, refl, ap, ◌∙◌, subst, inl, inr, add-zero, zero-add, arith}
+use Rattle.std.proofs.Common.{◌≡◌, ℕ, zero, suc, ◌+◌, ◌-◌, ◌<◌, ◌≤◌, ◌⊎◌, List, [], ◌∷◌, ◌++◌, length, Some, None, Option, refl, ap, ◌∙◌, subst, inl, inr, add-zero, zero-add, arith}
 use Rattle.std.specs.List.{AllByRecursion as All}
-use Rattle.part.specs.Ids.{prefixed, occupied, only_if, occupied_ids, or_else, least_occupied}
+use Rattle.part.specs.Ids.{prefixed, occupied, occupied_ids, or_else, least_occupied}
 
 length-prefixed : {X : Type 0} (o : Option X) (xs : List X) (n : ℕ) → length xs ≤ n → length (prefixed o xs) ≤ suc n
 length-prefixed (Some x) xs n h = omega arith

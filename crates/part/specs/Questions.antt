@@ -7,7 +7,7 @@ use Rattle.std.specs.List.{slice_get}
 use Rattle.words.specs.Edges.{Branch, Edge}
 use Rattle.words.specs.declared.Refusal.{Refusal}
 use Rattle.words.specs.declared.Refusal.TheVariants.{Oversized, NoEdge, NoBranch, NoItem}
-use Rattle.part.specs.Automata.{Automaton, Meaning, edges_here, edge_here, ids_of}
+use Rattle.part.specs.Automata.{Meaning, edges_here, edge_here, ids_of}
 use Rattle.part.specs.Ids.{least_occupied, occupied_ids}
 use Rattle.part.specs.declared.Assignment.{Assignment}
 use Rattle.part.specs.declared.Ceilings.{Ceilings}

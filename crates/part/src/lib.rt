@@ -1,4 +1,6 @@
 // The trait of a part: what it means, the laws that it keeps, and the questions that it answers.
+#![tactic(auto)]
+
 ghost use Rattle.std.specs.Prelude.{◌≡◌};
 ghost use Rattle.part.specs.Automata.{Meaning};
 ghost use Rattle.part.specs.Laws.{Lawful};

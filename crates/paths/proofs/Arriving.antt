@@ -1,13 +1,13 @@
 -- Descents that begin at a place's code.
-use Rattle.std.proofs.Common.{◌≡◌, ℕ, zero, suc, ◌+◌, ◌-◌, ◌<◌, ◌≤◌, Bool, true, false, cond, eqb, List, [], ◌∷◌, ◌++◌, map, length, get_or, take, drop, Some, None, Option, sym, refl, ap, ◌∙◌, subst, arith}
+use Rattle.std.proofs.Common.{◌≡◌, ℕ, ◌-◌, ◌<◌, ◌≤◌, Bool, true, false, cond, eqb, List, [], ◌∷◌, ◌++◌, map, length, get_or, take, drop, Some, None, Option, sym, refl, ap, ◌∙◌, subst, arith}
 use Rattle.std.proofs.lemmas.List.{take_rest, length-take-le, nil_from_length}
-use Rattle.std.proofs.lemmas.Bool.{cond_both, cond-false, ne_eqb}
+use Rattle.std.proofs.lemmas.Bool.{cond-false, ne_eqb}
 use Rattle.std.specs.Option.{option_map}
 use Rattle.words.specs.Words.{payload_of, done as doneWord, failed as failedWord}
 use Rattle.rules.specs.Descents.{Path as Way, arriving, within, descend, path_to}
-use Rattle.rules.specs.Places.{failed, behaviour, Place, done, running}
+use Rattle.rules.specs.Places.{failed, behaviour, done, running}
 use Rattle.paths.specs.Paths.{words_of, path_of, found, Descended, from_word}
-use Rattle.paths.specs.Places.{head_of_word, place_of}
+use Rattle.paths.specs.Places.{place_of}
 use Rattle.paths.specs.Sheets.{term_at, depth_at, span_at}
 use Rattle.paths.specs.declared.path.Path.{Path}
 use Rattle.paths.specs.declared.stack.Stack.{Stack}

@@ -1,9 +1,9 @@
 -- The numbers in the header of a loaded sheet.
-use Rattle.std.proofs.Common.{◌≡◌, ℕ, ◌+◌, ◌<◌, ◌≤◌, true, ◌&&◌, eqb, ltb, leb, List, length, get_or, arith}
+use Rattle.std.proofs.Common.{ℕ, ◌+◌, ◌<◌, ◌≤◌, ◌&&◌, eqb, ltb, leb, List, length, get_or, arith}
 use Rattle.std.proofs.lemmas.Bool.{and_parts, leb-true}
 use Rattle.words.specs.Words.{kind_of, payload_of}
 use Rattle.sheet.specs.Layout.{processes, records, urge}
-use Rattle.form.specs.Header.{least, most, header_right}
+use Rattle.form.specs.Header.{least, most}
 use Rattle.paths.proofs.Loading.{Loaded}
 
 header : (ws t : List ℕ) → Loaded ws t → (i : ℕ) → i < 3 → (least i ≤ payload_of (get_or ws i 0)) × (payload_of (get_or ws i 0) ≤ most i)

@@ -1,20 +1,19 @@
 -- Depths and spans by a loaded sheet's table: depths fall at each descent, spans add up.
-use Rattle.std.proofs.Common.{◌≡◌, ℕ, zero, suc, ◌+◌, ◌*◌, ◌/◌, ◌%◌, ◌<◌, ◌≤◌, max, Bool, true, false, cond, ◌&&◌, ◌⊎◌, List, [], ◌∷◌, length, get_or, sym, refl, ap, ◌∙◌, subst, inl, inr, ⊎_elim, arith}
+use Rattle.std.proofs.Common.{◌≡◌, ℕ, zero, suc, ◌+◌, ◌<◌, ◌≤◌, max, true, List, [], ◌∷◌, get_or, sym, refl, ap, ◌∙◌, ⊎_elim, arith}
 use Rattle.std.proofs.lemmas.Bool.{cases_lt, false≢true}
 use Rattle.std.proofs.lemmas.List.{get_or_past}
 use Rattle.std.specs.List.{AllByRecursion as All}
-use Rattle.sheet.specs.declared.step.Below.{Below}
-use Rattle.sheet.specs.declared.step.Below.TheVariants.{Absent, Leaf, One, Two}
+use Rattle.sheet.specs.declared.step.Below.TheVariants.{Leaf}
 use Rattle.sheet.specs.declared.step.Step.{Step}
 use Rattle.sheet.specs.declared.step.Step.TheVariants.{Stop, Act, Break, Throw, Alt, Seq, Loop, Try, When, Urgent, Call, Link}
 use Rattle.sheet.specs.Layout.{records, body}
 use Rattle.sheet.specs.Steps.{step_at, below_of, below_at}
-use Rattle.descent.specs.Sizes.{size_word, depth_of, span_of}
+use Rattle.descent.specs.Sizes.{size_word, span_of}
 use Rattle.descent.specs.Entries.{entry_over}
-use Rattle.rules.specs.Slots.{Ends, Spans, span_over, total}
-use Rattle.rules.specs.Terms.{Term, below}
+use Rattle.rules.specs.Slots.{Ends, Spans, span_over}
+use Rattle.rules.specs.Terms.{below}
 use Rattle.rules.proofs.Depths.{falling_ends}
-use Rattle.paths.specs.Places.{is_behaviour, behaviour_at}
+use Rattle.paths.specs.Places.{is_behaviour}
 use Rattle.paths.specs.Sheets.{term_of, term_at, depth_at, span_at}
 use Rattle.paths.proofs.Loading.{Loaded}
 use Rattle.paths.proofs.RecordsRight.{Kin, StepRight, kin_inside, kin_step, step_right, past_sheet}

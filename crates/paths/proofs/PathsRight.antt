@@ -1,10 +1,9 @@
 -- What holds of every path that a descent finds in a loaded sheet.
-use Rattle.std.proofs.Common.{◌≡◌, ℕ, zero, suc, ◌+◌, ◌-◌, ◌<◌, ◌≤◌, Bool, true, false, cond, eqb, ltb, ◌⊎◌, List, [], ◌∷◌, ◌++◌, length, Some, None, Option, sym, refl, ap, ◌∙◌, subst, inl, inr, ⊎_elim, arith}
-use Rattle.std.proofs.lemmas.List.{length-append, length_push}
+use Rattle.std.proofs.Common.{◌≡◌, ℕ, zero, suc, ◌+◌, ◌-◌, ◌<◌, ◌≤◌, Bool, true, false, cond, eqb, ltb, List, [], ◌∷◌, length, Some, None, Option, sym, refl, ap, subst, arith}
+use Rattle.std.proofs.lemmas.List.{length_push}
 use Rattle.std.proofs.ByRecursion.{All-push}
 use Rattle.std.specs.Option.{option_map}
 use Rattle.std.specs.List.{AllByRecursion as All}
-use Rattle.sheet.specs.declared.step.Below.TheVariants.{Leaf}
 use Rattle.sheet.specs.declared.step.Step.{Step}
 use Rattle.sheet.specs.declared.step.Step.TheVariants.{Stop, Act, Break, Throw, Alt, Seq, Loop, Try, When, Urgent, Call, Link}
 use Rattle.sheet.specs.Layout.{body}
@@ -12,7 +11,7 @@ use Rattle.sheet.specs.Steps.{step_at}
 use Rattle.rules.specs.Descents.{Path, arrived, within, under_when, under_urgent, arriving, descend_as, descend}
 use Rattle.rules.specs.Places.{Head, failed, behaviour}
 use Rattle.rules.specs.Promise.{Frames}
-use Rattle.rules.specs.Terms.{Term, is_frame}
+use Rattle.rules.specs.Terms.{is_frame}
 use Rattle.paths.specs.Sheets.{term_of, term_at, depth_at, span_at}
 use Rattle.paths.proofs.Loading.{Loaded}
 use Rattle.paths.proofs.Measures.{falls_by, leaf_deep}

@@ -1,9 +1,9 @@
 -- A path with one word more in one of its stacks.
-use Rattle.std.proofs.Common.{◌≡◌, ℕ, ◌+◌, ◌<◌, List, [], ◌∷◌, ◌++◌, map, reverse, length, get_or, take, Some, None, Option, ap, ◌∙◌, append_assoc}
+use Rattle.std.proofs.Common.{◌≡◌, ℕ, ◌+◌, ◌<◌, List, [], ◌∷◌, ◌++◌, map, reverse, length, get_or, take, Some, Option, ap, ◌∙◌, append_assoc}
 use Rattle.std.proofs.lemmas.List.{reverse-append, map_more}
 use Rattle.std.specs.Option.{option_map}
 use Rattle.rules.specs.Descents.{under_when}
-use Rattle.paths.specs.Paths.{words_of, head_of, path_of, found}
+use Rattle.paths.specs.Paths.{words_of, path_of, found}
 use Rattle.paths.specs.declared.path.Path.{Path}
 use Rattle.paths.specs.declared.stack.Stack.{Stack}
 

@@ -1,15 +1,14 @@
 -- What the words of a loaded sheet's records give: what a behaviour refers to is there and is what it should be.
-use Rattle.std.proofs.Common.{◌≡◌, ℕ, ◌+◌, ◌*◌, ◌/◌, ◌%◌, ◌<◌, ◌≤◌, Bool, true, false, cond, ◌&&◌, ◌||◌, eqb, ltb, leb, ◌⊎◌, List, [], ◌∷◌, length, get_or, sym, refl, ap, ◌∙◌, subst, inl, inr, ⊎_elim, arith}
-use Rattle.std.proofs.lemmas.Bool.{cases_lt, cond_both, cond-false, eqb-true, eqb-false, and_parts, and_from, or_cases, ltb-true, lt-ltb, lt-leb, leb-true, both_ways}
+use Rattle.std.proofs.Common.{◌≡◌, ℕ, ◌+◌, ◌*◌, ◌/◌, ◌%◌, ◌<◌, ◌≤◌, true, false, ◌&&◌, ◌||◌, eqb, ltb, leb, ◌⊎◌, List, length, get_or, sym, refl, ap, subst, inl, inr, ⊎_elim, arith}
+use Rattle.std.proofs.lemmas.Bool.{cases_lt, cond_both, cond-false, eqb-true, and_parts, and_from, or_cases, ltb-true, lt-ltb, lt-leb, both_ways}
 use Rattle.std.proofs.lemmas.Bool.Decides.{nat_tests}
 use Rattle.words.specs.Words.{kind_of, payload_of, none, exception}
 use Rattle.sheet.specs.declared.reader.Record.{Record}
 use Rattle.sheet.specs.declared.step.Step.{Step}
 use Rattle.sheet.specs.declared.step.Step.TheVariants.{Stop, Act, Break, Throw, Alt, Seq, Loop, Try, When, Urgent, Call, Link}
-use Rattle.sheet.specs.Layout.{processes, records, body, position, blank, four_from, record_at}
+use Rattle.sheet.specs.Layout.{processes, records, body, position, blank, record_at}
 use Rattle.sheet.specs.Steps.{of_kind, step_of, step_at}
 use Rattle.form.specs.Fields.{behaviour_kind, layout_of, field_of, value_of, admits, word_right}
-use Rattle.form.specs.Header.{process_right}
 use Rattle.paths.specs.Places.{is_behaviour, behaviour_at}
 use Rattle.paths.proofs.Loading.{Loaded}
 

@@ -1,4 +1,6 @@
 // The way down from a place to one of its edges.
+#![tactic(auto)]
+
 mod code;
 mod descend;
 mod path;

@@ -1,5 +1,5 @@
 -- A listing that was accepted holds all edges, so that its lines are those of the part.
-use Rattle.std.proofs.Common.{◌≡◌, ℕ, zero, suc, ◌+◌, ◌-◌, ◌<◌, ◌≤◌, Bool, true, false, cond, eqb, leb, List, [], ◌∷◌, ◌++◌, length, Ok, Err, Result, sym, refl, ap, ◌∙◌, arith, length-append, le-leb, leb-true}
+use Rattle.std.proofs.Common.{◌≡◌, ℕ, zero, suc, ◌-◌, ◌<◌, ◌≤◌, Bool, true, false, eqb, leb, List, [], ◌∷◌, length, Ok, Err, Result, sym, refl, ap, ◌∙◌, arith, length-append, le-leb, leb-true}
 use borrow.Author.Tests.{eqb-false}
 use Rattle.std.specs.List.{flat_map}
 use Rattle.words.specs.Edges.{Edge}

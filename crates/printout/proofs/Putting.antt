@@ -3,7 +3,7 @@ use Rattle.std.proofs.Common.{◌≡◌, ℕ, zero, suc, ◌-◌, ◌≤◌, Boo
 use Rattle.std.proofs.lemmas.List.{take_at}
 use Rattle.words.specs.declared.Refusal.{Refusal}
 use Rattle.words.specs.declared.Refusal.TheVariants.{LineTooLong}
-use Rattle.lines.specs.Lines.{answered, out_after, printed}
+use Rattle.lines.specs.Lines.{answered, out_after}
 use Rattle.std.specs.Result.{result_ok}
 use Rattle.lists.specs.Reading.{branches_in, behind_branch, edges_from, behind_edge}
 use Rattle.listed.specs.Listed.{Missing}

@@ -1,5 +1,5 @@
 -- A walk along a row of items that puts the text of each behind a text.
-use Rattle.std.proofs.Common.{◌≡◌, ℕ, suc, ◌+◌, ◌<◌, Bool, true, false, ◌&&◌, List, [], ◌∷◌, ◌++◌, length, sym, refl, ap, ◌∙◌, append_assoc, append-nil, add-one, arith}
+use Rattle.std.proofs.Common.{◌≡◌, ℕ, suc, ◌+◌, Bool, true, false, ◌&&◌, List, [], ◌∷◌, ◌++◌, length, sym, refl, ap, ◌∙◌, append_assoc, append-nil, add-one, arith}
 use Rattle.printout.specs.Printouts.{rows, each_fits}
 
 module _ {X : Type 0} (text : ℕ → X → List ℕ) (fit : ℕ → X → Bool) where

@@ -1,4 +1,6 @@
 // The printout of an ended list: all its lines, one after the other.
+#![tactic(auto)]
+
 ghost use Rattle.std.specs.Prelude.{◌≡◌, ◌≤◌, ◌++◌, length, take, codes, OnOk};
 ghost use Rattle.lists.specs.Reading.{edges_in};
 ghost use Rattle.listed.specs.Listed.{edge_at, branch_at};

@@ -1,5 +1,5 @@
 -- What loading answers of the words that bytes spell is what opening answers of the bytes.
-use Rattle.std.proofs.Common.{◌≡◌, ℕ, List, length, replicate, Ok, Err, vec_items, sym, ap, ◌∙◌, subst, inr}
+use Rattle.std.proofs.Common.{◌≡◌, ℕ, List, length, replicate, Ok, Err, vec_items, ap, ◌∙◌, subst, inr}
 use lib.ListN.{length-replicate}
 use Rattle.words.specs.declared.Fault.{Fault}
 use Rattle.input.specs.Bytes.{words_of, byte_check}

@@ -1,4 +1,6 @@
 // From the bytes of a sheet to what is printed of it: the edges at its start, or why it was refused.
+#![tactic(auto)]
+
 ghost use Rattle.std.specs.Prelude.{◌≡◌, IfOk};
 ghost use Rattle.printout.specs.Texts.{text_of};
 ghost use Rattle.report.specs.Expanding.{list_room, at_start, Expanded, Explains};

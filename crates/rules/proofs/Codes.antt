@@ -1,7 +1,7 @@
 -- The code of a place names it, and is empty only beyond.
-use Rattle.std.proofs.Common.{◌≡◌, ℕ, Bool, true, false, cond, List, [], ◌∷◌, map, length, sym, refl, ap, ◌∙◌, subst, ap₂, arith}
+use Rattle.std.proofs.Common.{◌≡◌, ℕ, Bool, true, false, cond, List, [], ◌∷◌, map, length, sym, refl, ap, ap₂, arith}
 use Rattle.words.specs.Words.{done as doneWord, frame_word}
-use Rattle.rules.specs.Places.{Head, failed, behaviour, Place, done, running, beyond, head_word, code_of}
+use Rattle.rules.specs.Places.{Head, failed, behaviour, done, running, beyond, head_word}
 use Rattle.rules.specs.Promise.{CodesNamePlaces}
 
 same_head : (h g : Head) → head_word h ≡ head_word g → h ≡ g

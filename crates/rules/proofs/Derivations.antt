@@ -8,7 +8,7 @@ use Rattle.words.specs.Words.{breaking, failing}
 use Rattle.rules.specs.Exactly.{Exactly}
 use Rattle.rules.specs.Listing.{passed, passed_all, branches_of, each, slots_of, slots_under, slots_at, filled, edges_at}
 use Rattle.rules.specs.Passing.{lone}
-use Rattle.rules.specs.Places.{Head, failed, behaviour, Place, done, running}
+use Rattle.rules.specs.Places.{failed, behaviour, Place, done, running}
 use Rattle.rules.specs.Promise.{Stands, EdgesAreDerivations, TurnsNameDerivations}
 use Rattle.rules.specs.Rules.{Turn, first, second, plain, failure, guarded, urged}
 use Rattle.rules.specs.Rules.{Derives, act, act_branches, break, throw, alt-first, alt-second, call, when, urgent, framed}

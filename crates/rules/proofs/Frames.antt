@@ -1,7 +1,7 @@
 -- An edge passes a frame in exactly one way, the computed one.
 --
 -- Framing t a: t is a seq, loop or try around the body a.
-use Rattle.std.proofs.Common.{◌≡◌, ℕ, Bool, true, false, cond, eqb, List, [], ◌∷◌, Some, None, Option, sym, refl, ap, ◌∙◌, subst, arith}
+use Rattle.std.proofs.Common.{◌≡◌, ℕ, Bool, true, false, cond, eqb, List, [], ◌∷◌, Some, None, Option, sym, refl, ap, ◌∙◌, subst}
 use Rattle.std.proofs.lemmas.Bool.{false≢true, eqb-true, eqb-false, eq-eqb, ne_eqb}
 use Rattle.words.specs.Edges.{Edge}
 use Rattle.words.specs.Words.{breaking}

@@ -1,5 +1,5 @@
 -- The slots of a record and of a place: how many they are, and how the edge in one is found in a descent.
-use Rattle.std.proofs.Common.{◌≡◌, ℕ, zero, suc, ◌+◌, ◌-◌, ◌<◌, ◌≤◌, Bool, true, false, cond, eqb, ltb, List, [], ◌∷◌, ◌++◌, length, Some, None, Option, sym, refl, ap, ◌∙◌, ap₂, ⊎_elim, append_assoc, arith, length-append}
+use Rattle.std.proofs.Common.{◌≡◌, ℕ, zero, suc, ◌+◌, ◌-◌, ◌<◌, ◌≤◌, Bool, true, false, cond, eqb, ltb, List, [], ◌∷◌, ◌++◌, length, Some, None, Option, sym, refl, ap, ◌∙◌, ap₂, ⊎_elim, arith, length-append}
 use lib.Dec.{eqb-suc-zero}
 use lib.ListN.{length-map}
 use Rattle.std.specs.Option.{option_map}
@@ -7,9 +7,9 @@ use Rattle.std.specs.List.{AllByRecursion as All}
 use Rattle.std.proofs.lemmas.Bool.{cases_lt, lt-ltb, le-ltb, cond-true, cond-false}
 use Rattle.words.specs.Edges.{Edge}
 use Rattle.words.specs.Words.{failing, constant, condition, disjunction}
-use Rattle.rules.specs.Cuts.{Cut, cut, past_as, past}
+use Rattle.rules.specs.Cuts.{Cut, cut, past_as}
 use Rattle.rules.specs.Descents.{Path, arrived, within, under_when, under_urgent, arriving, descend_as, descend, path_to}
-use Rattle.rules.specs.Descents.{action_as, branches_as, leaf_action, leaf_branches, urging, leaf_edge, path_edge, lookup}
+use Rattle.rules.specs.Descents.{action_as, branches_as, leaf_action, leaf_branches, urging, leaf_edge, path_edge}
 use Rattle.rules.specs.Listing.{passed, passed_all, each, slots_of, slots_under, slots_at, filled}
 use Rattle.rules.specs.Passing.{lone}
 use Rattle.rules.specs.Places.{Head, failed, behaviour, Place, done, running}

@@ -10,7 +10,7 @@ use Rattle.std.specs.Option.{option_map}
 use Rattle.words.specs.Edges.{Edge, renamed_by}
 use Rattle.words.specs.Words.{breaking}
 use Rattle.rules.specs.Passing.{silent, handler_of}
-use Rattle.rules.specs.Places.{Head, Place, done, running, start}
+use Rattle.rules.specs.Places.{Place, done, running, start}
 use Rattle.rules.specs.Terms.{Term, Role, Onward, Again, Catching, Unframed, role_of}
 
 pub record Cut : Type 0 where

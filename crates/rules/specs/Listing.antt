@@ -8,7 +8,7 @@ use Rattle.std.specs.Prelude.{ℕ, zero, suc, cond, List, [], ◌∷◌, ◌++�
 use Rattle.std.specs.Option.{option_map}
 use Rattle.words.specs.Edges.{Branch, Edge}
 use Rattle.words.specs.Words.{breaking, failing}
-use Rattle.rules.specs.Places.{Head, failed, behaviour, Place, done, running, start}
+use Rattle.rules.specs.Places.{failed, behaviour, Place, done, running, start}
 use Rattle.rules.specs.Passing.{lone, silent, kept, handler_of}
 use Rattle.rules.specs.Rules.{plain, branch_of, failure, guarded, urged}
 use Rattle.rules.specs.Terms.{Way, Term, Stop, Act, Break, Throw, Alt, Seq, Loop, Try, When, Urgent, Call}

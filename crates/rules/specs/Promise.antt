@@ -10,7 +10,7 @@ use Rattle.rules.specs.Cuts.{past}
 use Rattle.rules.specs.Descents.{lookup}
 use Rattle.rules.specs.Exactly.{Before, Exactly}
 use Rattle.rules.specs.Listing.{passed_all, slots_at, edges_at}
-use Rattle.rules.specs.Places.{Head, failed, behaviour, Place, done, running, code_of}
+use Rattle.rules.specs.Places.{failed, behaviour, Place, done, running, code_of}
 use Rattle.rules.specs.Rules.{Turn, Offers}
 use Rattle.rules.specs.Slots.{edge_at, occupied, Ends, Spans, slot_count}
 use Rattle.rules.specs.Terms.{Term, is_frame}

@@ -8,7 +8,7 @@
 use Rattle.std.specs.Prelude.{◌≡◌, ℕ, List, [], ◌∷◌, ◌++◌, map, Some, None, Option}
 use Rattle.words.specs.Edges.{Branch, Edge}
 use Rattle.words.specs.Words.{breaking, failing, constant, condition, disjunction}
-use Rattle.rules.specs.Places.{Head, failed, behaviour, Place, done, running, start}
+use Rattle.rules.specs.Places.{failed, behaviour, Place, done, running, start}
 use Rattle.rules.specs.Passing.{lone, Passes, PassesAll}
 use Rattle.rules.specs.Terms.{Way, Term, Act, Break, Throw, Alt, When, Urgent, Call, below}
 

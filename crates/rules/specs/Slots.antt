@@ -5,11 +5,11 @@
 -- Ends term k r: the descent from record r ends within k records.
 -- Spans term span: span r is 1 if record r does not descend, else the sum of the spans of the records below it.
 -- slot_count span p: how many slots the place p has.
-use Rattle.std.specs.Prelude.{◌≡◌, ℕ, zero, suc, ◌+◌, List, [], ◌∷◌, ◌++◌, Some, None, Option}
+use Rattle.std.specs.Prelude.{◌≡◌, ℕ, zero, suc, ◌+◌, List, [], ◌∷◌, Some, None, Option}
 use Rattle.std.specs.List.{AllByRecursion as All}
 use Rattle.words.specs.Edges.{Edge}
 use Rattle.rules.specs.Listing.{slots_at}
-use Rattle.rules.specs.Places.{Head, failed, behaviour, Place, done, running}
+use Rattle.rules.specs.Places.{failed, behaviour, Place, done, running}
 use Rattle.rules.specs.Terms.{Term, below}
 
 abbrev pub slot_in : {E : Type 0} → List (Option E) → ℕ → Option E

@@ -2,6 +2,8 @@
 //
 // The rules stand in specs/Passing.antt and specs/Rules.antt as relations, one constructor for each rule;
 // specs/Promise.antt says how the edges that are listed, and looked up, agree with them.
+#![tactic(auto)]
+
 ghost use Rattle.std.specs.Prelude.{◌≡◌, ℕ, List, [], length, Decides};
 ghost use Rattle.rules.specs.Places.{Head, running, most_frames, beyond, code_of};
 ghost use Rattle.rules.specs.Promise.{EdgesAreDerivations, RisingIsStrict, TurnsNameDerivations};

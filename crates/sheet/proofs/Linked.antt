@@ -1,5 +1,5 @@
 -- A chain walked record by record.
-use Rattle.std.proofs.Common.{◌≡◌, ℕ, zero, suc, ◌+◌, ◌-◌, ◌*◌, ◌<◌, ◌≤◌, Bool, true, false, cond, ◌||◌, eqb, List, [], ◌∷◌, length, Some, None, Option, sym, refl, ap, ◌∙◌, arith, eq-eqb, ne_eqb}
+use Rattle.std.proofs.Common.{◌≡◌, ℕ, zero, suc, ◌+◌, ◌-◌, ◌*◌, ◌<◌, ◌≤◌, Bool, true, false, cond, ◌||◌, eqb, List, [], ◌∷◌, length, Some, None, sym, refl, ◌∙◌, arith, eq-eqb, ne_eqb}
 use mathlib.Core.Bool.{or_assoc, or-false}
 use Rattle.std.specs.List.{slice_get}
 use Rattle.words.specs.Words.{payload_of, none}

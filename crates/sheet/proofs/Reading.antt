@@ -1,7 +1,7 @@
 -- Words read through a slice of the sheet are the sheet's own.
-use Rattle.std.proofs.Common.{◌≡◌, ℕ, ◌+◌, ◌-◌, ◌<◌, ◌≤◌, true, cond, leb, List, length, get_or, take, drop, sym, refl, ap, ◌∙◌, add-zero, arith, get_or-drop, get_or-take, le-leb}
+use Rattle.std.proofs.Common.{◌≡◌, ℕ, ◌+◌, ◌-◌, ◌<◌, ◌≤◌, true, leb, List, length, get_or, take, drop, ◌∙◌, add-zero, arith, get_or-drop, get_or-take, le-leb}
 use Rattle.sheet.specs.declared.reader.Record.{Record}
-use Rattle.sheet.specs.Layout.{four_from, blank}
+use Rattle.sheet.specs.Layout.{four_from}
 
 pub tail_word : (ws : List ℕ) (p i : ℕ) → i < length ws - p → get_or (take (length ws - p) (drop p ws)) i 0 ≡ get_or ws (p + i) 0
 tail_word ws p i h = get_or-take (length ws - p) (drop p ws) i 0 h ∙ get_or-drop p ws i 0

@@ -4,7 +4,7 @@
 -- processes, each a word with the record that is its body; then the records, four words each.
 -- position: where a record begins. A record that is not there reads as all 0.
 use Rattle.std.specs.Prelude.{ℕ, ◌+◌, ◌*◌, cond, List, length, nat_le, slice_index}
-use Rattle.words.specs.Words.{kind_of, payload_of}
+use Rattle.words.specs.Words.{payload_of}
 use Rattle.sheet.specs.declared.reader.Record.{Record}
 
 abbrev pub processes : List ℕ → ℕ

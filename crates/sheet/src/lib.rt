@@ -1,4 +1,6 @@
 // A model sheet: its words read record by record.
+#![tactic(auto)]
+
 mod chains;
 pub mod kinds;
 mod reader;

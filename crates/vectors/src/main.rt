@@ -1,4 +1,6 @@
 // Prints, for each sheet named as an argument, its name and what is printed of the sheet.
+#![tactic(auto)]
+
 use report::expansion;
 use std::io::Write;
 use std::{env, fs};

@@ -1,9 +1,9 @@
 -- Every check that is built of `lowest`, `unless` and `then` has one right answer.
-use Rattle.std.proofs.Common.{◌≡◌, ℕ, ◌<◌, Bool, true, false, ltb, ◌⊎◌, Ok, Err, Result, sym, refl, ap, ◌∙◌, inl, inr, arith, ltb-false, ltb-true}
+use Rattle.std.proofs.Common.{◌≡◌, ℕ, Bool, true, false, ltb, Ok, Err, sym, refl, ap, ◌∙◌, inl, inr, arith, ltb-false, ltb-true}
 use borrow.Author.Tests.{both_ways}
 use Rattle.words.specs.declared.Fault.{Fault}
 use Rattle.words.specs.declared.Refusal.{Refusal}
-use Rattle.words.specs.Checks.{Check, fault, Clear, Lowest, lowest, unless, ◌then◌, Single}
+use Rattle.words.specs.Checks.{Check, fault, Lowest, lowest, unless, ◌then◌, Single}
 
 pub lowest_same : (wrong : ℕ → Type 0) (n i j : ℕ) → Lowest wrong n i → Lowest wrong n j → i ≡ j
 lowest_same wrong n i j a b = go (ltb i j) (ltb j i) refl refl

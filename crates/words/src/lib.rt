@@ -1,4 +1,6 @@
 // Words and refusals: what every other crate of the bench speaks in.
+#![tactic(auto)]
+
 ghost use Rattle.std.specs.Prelude.{◌≡◌, ◌+◌, ◌*◌, ◌/◌, ◌%◌};
 ghost use Rattle.words.specs.Checks.{unless};
 ghost use Rattle.words.specs.Refusals.{number_of};

@@ -1,6 +1,6 @@
 use Rattle.std.proofs.Common.{[], ◌∷◌, vec_items, refl, arith, ltb-false, ltb-true}
 use Rattle.std.proofs.lemmas.Slice.{pushed}
-use Rattle.input.proofs.Spelling.{word_more, too_few}
+use Rattle.input.proofs.Spelling.{word_more}
 use Rattle.input.proofs.decode.Goals as goal
 
 pub loop-rest-preserved : goal.loop-rest-preserved

@@ -1,4 +1,4 @@
-use Rattle.std.proofs.Common.{◌≡◌, ◌++◌, vec_items, codes, ap, ◌∙◌}
+use Rattle.std.proofs.Common.{◌++◌, vec_items, codes, ap, ◌∙◌}
 use Rattle.printout.proofs.Putting.{line_stands}
 use Rattle.printout.proofs.put_branch.Goals as goal
 

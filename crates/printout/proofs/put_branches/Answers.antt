@@ -1,9 +1,9 @@
-use Rattle.std.proofs.Common.{◌≡◌, true, ◌∷◌, length, vec_items, ap, subst, arith}
+use Rattle.std.proofs.Common.{◌≡◌, true, length, vec_items, ap, subst, arith}
 use Rattle.lists.specs.Reading.{branch_total, branch_words_in, branches_in, behind_branch}
 use Rattle.listed.specs.Listed.{edge_at, branch_at, branches_on}
 use Rattle.printout.specs.Printouts.{branch_line, branch_fits}
 use Rattle.printout.proofs.Putting.{left, first-left, next_left, length_branches}
-use Rattle.printout.proofs.Walking.{Going, going_start, going_next, going_end, going_stuck}
+use Rattle.printout.proofs.Walking.{going_start, going_next}
 use Rattle.printout.proofs.put_branches.Goals as goal
 
 pub loop-next-init : goal.loop-next-init

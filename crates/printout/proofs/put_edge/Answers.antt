@@ -1,4 +1,4 @@
-use Rattle.std.proofs.Common.{◌≡◌, ◌++◌, length, vec_items, codes, ap, ◌∙◌, subst}
+use Rattle.std.proofs.Common.{◌++◌, vec_items, codes, ap, ◌∙◌, subst}
 use Rattle.listed.specs.Listed.{edge_at}
 use Rattle.printout.specs.Printouts.{rows, each_fits, branch_line, branch_fits, Puts}
 use Rattle.printout.proofs.Putting.{line_stands, puts_after}

@@ -1,10 +1,10 @@
-use Rattle.std.proofs.Common.{◌≡◌, true, ◌∷◌, length, drop, vec_items, ap, subst, arith}
+use Rattle.std.proofs.Common.{◌≡◌, true, length, drop, vec_items, ap, subst, arith}
 use Rattle.words.specs.Words.{payload_of}
 use Rattle.lists.specs.Reading.{first, edges_in, edges_from, behind_edge}
 use Rattle.listed.specs.Listed.{edge_at, edges_on}
 use Rattle.printout.specs.Printouts.{edge_lines, edge_fits}
 use Rattle.printout.proofs.Putting.{left, first-left, next_left, length_edges}
-use Rattle.printout.proofs.Walking.{Going, going_start, going_next, going_end, going_stuck}
+use Rattle.printout.proofs.Walking.{going_start, going_next}
 use Rattle.printout.proofs.put_edges.Goals as goal
 
 pub loop-next-init : goal.loop-next-init

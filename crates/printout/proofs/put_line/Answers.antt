@@ -1,4 +1,4 @@
-use Rattle.std.proofs.Common.{◌≡◌, ℕ, ◌-◌, List, [], ◌∷◌, ◌++◌, take, drop, vec_items, refl, ap, ◌∙◌, append_assoc, arith}
+use Rattle.std.proofs.Common.{◌≡◌, ℕ, ◌-◌, List, [], ◌∷◌, ◌++◌, take, ap, ◌∙◌, append_assoc, arith}
 use Rattle.printout.proofs.put_line.Goals as goal
 
 put-twice : (a b c line : List ℕ) (n m : ℕ) → b ≡ a ++ take m line → c ≡ b ++ (10 ∷ []) → m ≡ n → c ≡ a ++ (take n line ++ (10 ∷ []))

@@ -1,4 +1,4 @@
-use Rattle.std.proofs.Common.{◌≡◌, ◌++◌, length, vec_items, codes, ap, ◌∙◌, subst}
+use Rattle.std.proofs.Common.{◌++◌, vec_items, codes, ap, ◌∙◌, subst}
 use Rattle.lists.specs.Reading.{edges_in}
 use Rattle.printout.specs.Printouts.{rows, each_fits, edge_lines, edge_fits, Puts}
 use Rattle.printout.proofs.Putting.{line_stands, puts_after}

@@ -1,4 +1,4 @@
-use Rattle.std.proofs.Common.{◌≡◌, ◌-◌, length, sym, refl, ap, ◌∙◌, arith}
+use Rattle.std.proofs.Common.{◌-◌, sym, refl, ap, ◌∙◌, arith}
 use Rattle.std.specs.List.{slice_get}
 use Rattle.behaviour.proofs.Answering.{outcome_code, small_at, frames_small, frame_item, no_frame_item}
 use Rattle.behaviour.proofs.outcome.outcome_word.Goals as goal

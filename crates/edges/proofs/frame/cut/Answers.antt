@@ -1,4 +1,4 @@
-use Rattle.std.proofs.Common.{◌≡◌, sym, ap, ◌∙◌, arith}
+use Rattle.std.proofs.Common.{sym, ◌∙◌, arith}
 use Rattle.edges.proofs.Framing.{cut_here, cut_later, cut_nowhere}
 use Rattle.edges.proofs.frame.cut.Goals as goal
 

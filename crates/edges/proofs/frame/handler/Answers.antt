@@ -1,9 +1,9 @@
-use Rattle.std.proofs.Common.{◌≡◌, ◌<◌, ◌≤◌, map, vec_items, sym, ap, ◌∙◌, arith}
+use Rattle.std.proofs.Common.{◌<◌, ◌≤◌, map, vec_items, sym, ap, ◌∙◌, arith}
 use Rattle.sheet.specs.Layout.{records}
 use Rattle.rules.specs.Passing.{first_for}
-use Rattle.paths.specs.Sheets.{clause_at, clauses_from}
+use Rattle.paths.specs.Sheets.{clause_at}
 use Rattle.edges.proofs.Chained.{rest_all, rest-none, rest_over}
-use Rattle.edges.proofs.Framing.{handled, unhandled, catching, passing}
+use Rattle.edges.proofs.Framing.{handled, catching, passing}
 use Rattle.edges.proofs.frame.handler.Goals as goal
 
 pub loop-step-init : goal.loop-step-init

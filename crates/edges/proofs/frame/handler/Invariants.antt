@@ -1,5 +1,4 @@
 use Rattle.std.proofs.Common.{◌≡◌, map, vec_items}
-use Rattle.sheet.specs.Layout.{records}
 use Rattle.rules.specs.Passing.{first_for}
 use Rattle.paths.specs.Sheets.{clause_at, clauses_from}
 use Rattle.edges.proofs.Chained.{rest}

@@ -1,4 +1,4 @@
-use Rattle.std.proofs.Common.{◌≡◌, sym, ap, ◌∙◌, arith}
+use Rattle.std.proofs.Common.{◌∙◌, arith}
 use Rattle.edges.proofs.Framing.{done_here, done_later, done_nowhere}
 use Rattle.edges.proofs.frame.land_done.Goals as goal
 

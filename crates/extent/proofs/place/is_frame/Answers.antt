@@ -1,4 +1,3 @@
-use Rattle.std.proofs.Common.{rules}
 use Rattle.paths.specs.Places.{frame_at}
 use Rattle.extent.proofs.place.is_frame.Goals as goal
 

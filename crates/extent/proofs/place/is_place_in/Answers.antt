@@ -1,5 +1,4 @@
-use Rattle.std.proofs.Common.{◌≡◌, ℕ, ◌-◌, ◌≤◌, List, length, take, drop, vec_items, sym, ap, ◌∙◌, arith, ltb-false, ltb-true}
-use Rattle.paths.specs.Places.{is_place}
+use Rattle.std.proofs.Common.{◌∙◌, arith, ltb-false, ltb-true}
 use Rattle.extent.proofs.Coded.{done_place, running_place}
 use Rattle.extent.proofs.place.is_place_in.Goals as goal
 

@@ -1,4 +1,4 @@
-use Rattle.std.proofs.Common.{◌≡◌, ℕ, Bool, List, refl, ◌∙◌}
+use Rattle.std.proofs.Common.{◌≡◌, ℕ, List, ◌∙◌}
 use Rattle.words.specs.Words.{kind_of}
 use Rattle.sheet.specs.declared.chains.Survey.{Survey}
 use Rattle.sheet.specs.declared.reader.Record.{Record}

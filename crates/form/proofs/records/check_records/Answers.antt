@@ -1,4 +1,4 @@
-use Rattle.std.proofs.Common.{◌≡◌, ℕ, ◌+◌, ◌*◌, false, sym, ap, ◌∙◌, arith}
+use Rattle.std.proofs.Common.{◌≡◌, ◌+◌, ◌*◌, false, ap, ◌∙◌, arith}
 use Rattle.words.specs.Checks.{fault}
 use Rattle.words.specs.declared.Refusal.TheVariants.{Record}
 use Rattle.std.proofs.lemmas.Result.{err_from_is_err_and}

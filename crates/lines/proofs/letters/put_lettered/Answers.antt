@@ -1,4 +1,4 @@
-use Rattle.std.proofs.Common.{◌≡◌, ◌∷◌, decimal, refl, ap, ◌∙◌}
+use Rattle.std.proofs.Common.{◌∷◌, decimal, ap}
 use Rattle.lines.proofs.Sums.{put_then, put_as}
 use Rattle.lines.proofs.letters.put_lettered.Goals as goal
 

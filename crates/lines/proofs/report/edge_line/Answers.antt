@@ -1,7 +1,7 @@
-use Rattle.std.proofs.Common.{◌≡◌, ℕ, List, length, Ok, Err, sym, refl, ap, ◌∙◌}
+use Rattle.std.proofs.Common.{ℕ, List, length, Err, sym, ap, ◌∙◌}
 use Rattle.std.proofs.lemmas.Result.{err_from_is_err_and}
 use Rattle.part.specs.Questions.{Answer}
-use Rattle.lines.specs.Lines.{edge_line_in, branch_line_in, answered, out_after}
+use Rattle.lines.specs.Lines.{answered, out_after}
 use Rattle.lines.proofs.Spelled.{no_edge_line, edge_line}
 use Rattle.lines.proofs.report.edge_line.Goals as goal
 

@@ -1,4 +1,4 @@
-use Rattle.std.proofs.Common.{◌≡◌, ℕ, refl, arith}
+use Rattle.std.proofs.Common.{arith}
 use Rattle.lines.proofs.Spelled.{head_spelled}
 use Rattle.lines.proofs.Sums.{put_then, line_done}
 use Rattle.lines.proofs.report.head_line.Goals as goal

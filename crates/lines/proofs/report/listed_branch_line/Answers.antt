@@ -1,4 +1,4 @@
-use Rattle.std.proofs.Common.{◌≡◌, ℕ, refl, arith}
+use Rattle.std.proofs.Common.{arith}
 use Rattle.listed.specs.Listed.{branch_at}
 use Rattle.lines.proofs.Spelled.{branch_spelled}
 use Rattle.lines.proofs.Sums.{put_then, line_done}

@@ -1,4 +1,4 @@
-use Rattle.std.proofs.Common.{◌≡◌, ℕ, refl, arith}
+use Rattle.std.proofs.Common.{arith}
 use Rattle.listed.specs.Listed.{edge_at}
 use Rattle.lines.proofs.Spelled.{edge_spelled}
 use Rattle.lines.proofs.Sums.{put_then, line_done}

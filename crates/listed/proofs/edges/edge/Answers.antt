@@ -1,4 +1,4 @@
-use Rattle.std.proofs.Common.{◌≡◌, ℕ, ◌+◌, ◌-◌, ◌≤◌, List, length, get_or, drop, sym, refl, ap, ◌∙◌, subst, arith}
+use Rattle.std.proofs.Common.{◌≡◌, ℕ, ◌+◌, ◌-◌, List, length, get_or, drop, sym, refl, ap, ◌∙◌, subst, arith}
 use Rattle.words.specs.Edges.{Edge}
 use Rattle.words.specs.Words.{payload_of}
 use Rattle.lists.specs.Reading.{edge_in, edges_from, edges_in, behind_edge}

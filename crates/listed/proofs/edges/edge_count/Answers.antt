@@ -1,4 +1,4 @@
-use Rattle.std.proofs.Common.{◌≡◌, ℕ, List, get_or, drop, sym, refl, ap, ◌∙◌}
+use Rattle.std.proofs.Common.{ℕ, List, get_or, drop, sym, refl, ap, ◌∙◌}
 use Rattle.words.specs.Words.{payload_of}
 use Rattle.lists.specs.Reading.{edge_in, edges_from, behind_edge}
 use Rattle.listed.proofs.Passing.{count_items}

@@ -1,6 +1,6 @@
-use Rattle.std.proofs.Common.{◌≡◌, ℕ, ◌<◌, ◌≤◌, true, false, not, ◌||◌, ◌∷◌, length, sym, refl, ap, ◌∙◌, arith, ltb-false, ltb-true}
+use Rattle.std.proofs.Common.{◌≡◌, ◌<◌, ◌≤◌, true, false, ◌∷◌, length, sym, refl, ap, ◌∙◌, arith, ltb-false, ltb-true}
 use Rattle.lists.specs.Format.{clashes_with, clashing}
-use Rattle.lists.proofs.Pairs.{Two, two, fewer}
+use Rattle.lists.proofs.Pairs.{two, fewer}
 use Rattle.lists.proofs.clash.clash.Goals as goal
 
 pub returns-then-differs : goal.returns-then-differs

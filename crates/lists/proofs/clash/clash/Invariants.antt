@@ -1,5 +1,5 @@
 use Rattle.std.proofs.Common.{◌≡◌, ℕ, List, length}
-use Rattle.lists.specs.Format.{clashes_with, clashing, pair_words}
+use Rattle.lists.specs.Format.{clashing, pair_words}
 use Rattle.lists.proofs.clash.clash.Given as goal
 
 abbrev pub invariant-loop-left : goal.invariant-loop-left

@@ -1,6 +1,6 @@
-use Rattle.std.proofs.Common.{◌≡◌, ℕ, ◌<◌, ◌≤◌, true, false, not, ◌&&◌, eqb, length, sym, refl, ap, ◌∙◌, arith, ltb-false, ltb-true}
+use Rattle.std.proofs.Common.{◌≡◌, ◌<◌, ◌≤◌, false, not, ◌&&◌, eqb, length, sym, ap, ◌∙◌, arith, ltb-false, ltb-true}
 use Rattle.lists.specs.Format.{clashes_with}
-use Rattle.lists.proofs.Pairs.{Two, two, fewer, same_so_far, other_expression, other_variable, same_expression}
+use Rattle.lists.proofs.Pairs.{two, fewer, same_so_far, other_expression, other_variable, same_expression}
 use Rattle.lists.proofs.clash.differs.Goals as goal
 use Rattle.lists.proofs.clash.differs.Goals.{else-other-variable-via-then-other-variable+else-another-expression, else-other-variable-via-else-other-variable}
 

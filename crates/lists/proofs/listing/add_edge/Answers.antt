@@ -1,4 +1,4 @@
-use Rattle.std.proofs.Common.{◌≡◌, sym, ◌∙◌, rules}
+use Rattle.std.proofs.Common.{sym, ◌∙◌, rules}
 use Rattle.lists.proofs.Closing.{edge_closed, closed_as}
 use Rattle.lists.proofs.listing.add_edge.Goals as goal
 

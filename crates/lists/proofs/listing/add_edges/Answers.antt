@@ -1,12 +1,10 @@
-use Rattle.std.proofs.Common.{◌≡◌, ℕ, ◌+◌, ◌-◌, ◌<◌, ◌≤◌, true, List, [], is_ok, Some, Ok, sym, refl, ap, ◌∙◌, arith}
+use Rattle.std.proofs.Common.{◌≡◌, ℕ, ◌-◌, ◌<◌, List, [], is_ok, Some, Ok, ap, ◌∙◌, arith}
 use Rattle.std.proofs.lemmas.Result.{err_from_is_err_and}
 use Rattle.words.specs.Edges.{Edge}
 use Rattle.words.specs.declared.Refusal.TheVariants.{NoEdge}
-use Rattle.part.specs.Automata.{Meaning, edges_here, edge_here, ids_of}
-use Rattle.part.specs.Ids.{occupied}
+use Rattle.part.specs.Automata.{Meaning, edge_here, ids_of}
 use Rattle.part.specs.Questions.{found, edge_by_id}
 use Rattle.part.proofs.Hops.{next_hop, next_end, not_oversized, edges_by_ids}
-use Rattle.part.proofs.Occupied.{Hop}
 use Rattle.lists.proofs.Runs.{added_none, all_added, done_fewer, one_more, no_room}
 use Rattle.lists.proofs.listing.add_edges.Goals as goal
 

@@ -1,10 +1,10 @@
-use Rattle.std.proofs.Common.{◌≡◌, ℕ, zero, suc, ◌-◌, ◌<◌, Bool, true, false, cond, eqb, leb, List, [], length, Ok, Err, Result, sym, refl, ap, ◌∙◌, arith}
+use Rattle.std.proofs.Common.{◌≡◌, ℕ, ◌-◌, Bool, true, false, cond, leb, List, length, Ok, Err, Result, refl, ap, ◌∙◌, arith}
 use Rattle.std.proofs.lemmas.List.{nil_from_length}
 use Rattle.std.proofs.lemmas.Bool.{ne_eqb, lt-leb}
 use Rattle.words.specs.declared.Refusal.{Refusal}
 use Rattle.words.specs.declared.Refusal.TheVariants.{ListTooLong}
 use Rattle.part.specs.Automata.{Meaning, edges_here}
-use Rattle.lists.specs.Endings.{Begun, counts_of, ended}
+use Rattle.lists.specs.Endings.{Begun}
 use Rattle.lists.specs.Format.{list_words}
 use Rattle.lists.specs.Listing.{listed, counted, listing_of, buffer_after}
 use Rattle.lists.specs.Runs.{AddedLeading}

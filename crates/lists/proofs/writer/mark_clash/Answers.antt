@@ -1,6 +1,5 @@
-use Rattle.std.proofs.Common.{◌≡◌, ℕ, ◌≤◌, List, ◌∷◌, ◌++◌, set, sym, refl, ap, ◌∙◌, arith}
+use Rattle.std.proofs.Common.{ℕ, ◌∷◌, ◌++◌, sym, refl, ap, ◌∙◌, arith}
 use Rattle.std.proofs.lemmas.List.{take-set-le}
-use Rattle.words.specs.Words.{word}
 use Rattle.lists.specs.Format.{pair_words, count_word}
 use Rattle.lists.proofs.Marks.{pairs_inside, pairs_slice, pairs_marked, count_marked, count_plain}
 use Rattle.lists.proofs.writer.mark_clash.Goals as goal

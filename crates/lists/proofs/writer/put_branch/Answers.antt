@@ -1,4 +1,4 @@
-use Rattle.std.proofs.Common.{◌≡◌, ℕ, ◌<◌, List, length, Ok, sym, refl, ap, ◌∙◌, subst, arith, lit<}
+use Rattle.std.proofs.Common.{◌≡◌, ℕ, List, length, Ok, sym, refl, ap, ◌∙◌, subst, lit<}
 use Rattle.words.specs.Edges.{Branch}
 use Rattle.words.specs.Words.{word}
 use Rattle.part.specs.Automata.{Meaning}

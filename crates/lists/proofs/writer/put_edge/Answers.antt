@@ -1,4 +1,4 @@
-use Rattle.std.proofs.Common.{◌≡◌, ℕ, ◌<◌, List, length, Ok, sym, refl, ap, ◌∙◌, lit<}
+use Rattle.std.proofs.Common.{◌≡◌, ℕ, List, length, Ok, sym, refl, ap, ◌∙◌, lit<}
 use Rattle.words.specs.Edges.{Edge}
 use Rattle.words.specs.Words.{word}
 use Rattle.part.specs.Automata.{Meaning}

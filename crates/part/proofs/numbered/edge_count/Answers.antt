@@ -1,8 +1,5 @@
-use Rattle.std.proofs.Common.{◌≡◌, ℕ, ◌+◌, ◌-◌, ◌<◌, ◌≤◌, length, Some, None, Ok, sym, ap, ◌∙◌, arith}
+use Rattle.std.proofs.Common.{◌≡◌, ◌<◌, length, Ok, sym, ap, ◌∙◌, arith}
 use Rattle.part.specs.Automata.{Meaning, edges_here, edge_here, ids_of}
-use Rattle.part.specs.Ids.{occupied}
-use Rattle.part.specs.Laws.{Lawful}
-use Rattle.part.specs.Questions.{next_of}
 use Rattle.part.proofs.Hops.{next_hop, next_end, not_oversized, edges_by_ids}
 use Rattle.part.proofs.Occupied.{Hop, length-occupied}
 use Rattle.part.proofs.numbered.edge_count.Goals as goal

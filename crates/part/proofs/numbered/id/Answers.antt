@@ -1,11 +1,11 @@
-use Rattle.std.proofs.Common.{◌≡◌, ℕ, zero, suc, ◌+◌, ◌-◌, ◌<◌, ◌≤◌, List, ◌∷◌, Some, None, Ok, Err, sym, refl, ap, ◌∙◌, arith}
+use Rattle.std.proofs.Common.{◌≡◌, ℕ, zero, suc, ◌-◌, ◌<◌, List, ◌∷◌, Some, None, Ok, Err, sym, refl, ap, ◌∙◌, arith}
 use Rattle.std.specs.List.{slice_get}
 use Rattle.words.specs.Edges.{Edge}
 use Rattle.words.specs.declared.Refusal.TheVariants.{NoEdge}
 use Rattle.part.specs.Automata.{Meaning, edges_here, edge_here, ids_of}
 use Rattle.part.specs.Ids.{occupied, occupied_ids}
 use Rattle.part.specs.Laws.{Lawful}
-use Rattle.part.specs.Questions.{next_of, id_of, edge_by_id, edge_by_number, found}
+use Rattle.part.specs.Questions.{id_of, edge_by_id, edge_by_number, found}
 use Rattle.part.proofs.Hops.{next_hop, next_end, not_oversized, edges_by_ids}
 use Rattle.part.proofs.numbered.id.Goals as goal
 

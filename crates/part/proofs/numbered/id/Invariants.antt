@@ -1,4 +1,4 @@
-use Rattle.std.proofs.Common.{◌≡◌, ◌+◌, ◌-◌}
+use Rattle.std.proofs.Common.{◌≡◌, ◌-◌}
 use Rattle.std.specs.List.{slice_get}
 use Rattle.part.specs.Automata.{edge_here, ids_of}
 use Rattle.part.specs.Ids.{occupied, occupied_ids}

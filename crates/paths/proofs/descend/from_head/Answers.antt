@@ -1,6 +1,4 @@
-use Rattle.std.proofs.Common.{◌≡◌, vec_items, sym, ap, ◌∙◌, arith}
 use Rattle.paths.proofs.Loading.{loaded}
-use Rattle.paths.proofs.Measures.{shallow}
 use Rattle.paths.proofs.Arriving.{by_record}
 use Rattle.paths.proofs.descend.from_head.Goals as goal
 

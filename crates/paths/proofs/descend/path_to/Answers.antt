@@ -1,4 +1,4 @@
-use Rattle.std.proofs.Common.{◌≡◌, ℕ, ◌-◌, ◌<◌, ◌≤◌, List, map, length, get_or, take, drop, sym, ap, ◌∙◌, arith, ltb-false, ltb-true}
+use Rattle.std.proofs.Common.{ℕ, ◌-◌, List, map, length, get_or, take, drop, ap, ◌∙◌, arith, ltb-false, ltb-true}
 use Rattle.std.proofs.lemmas.List.{length-take-le, length-drop, take_rest}
 use Rattle.std.specs.Option.{option_map}
 use Rattle.words.specs.Words.{payload_of}

@@ -1,7 +1,6 @@
 use Rattle.std.proofs.Common.{◌≡◌, ℕ, List, [], ◌∷◌, vec_items, ap, ◌∙◌, arith}
 use Rattle.words.specs.Words.{payload_of, record_word}
 use Rattle.sheet.specs.Layout.{body}
-use Rattle.part.specs.Automata.{Meaning}
 use Rattle.paths.specs.Paths.{code_words}
 use Rattle.paths.specs.Places.{is_place}
 use Rattle.paths.proofs.Loading.{loaded}

@@ -1,4 +1,4 @@
-use Rattle.std.proofs.Common.{◌≡◌, Ok, sym, ap, ◌∙◌}
+use Rattle.std.proofs.Common.{Ok, sym, ap, ◌∙◌}
 use Rattle.words.specs.declared.Refusal.TheVariants.{NoItem}
 use Rattle.part.specs.Questions.{then, found, assigning, assignment_of}
 use Rattle.behaviour.proofs.Answering.{assigned, unassigned}

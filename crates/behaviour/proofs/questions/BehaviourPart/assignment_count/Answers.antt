@@ -1,4 +1,4 @@
-use Rattle.std.proofs.Common.{◌≡◌, Ok, sym, ap, ◌∙◌}
+use Rattle.std.proofs.Common.{Ok, sym, ap, ◌∙◌}
 use Rattle.part.specs.Questions.{assignment_count_of}
 use Rattle.behaviour.proofs.Answering.{chain_length}
 use Rattle.behaviour.proofs.questions.BehaviourPart.assignment_count.Goals as goal

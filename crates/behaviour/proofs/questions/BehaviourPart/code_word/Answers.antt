@@ -1,4 +1,4 @@
-use Rattle.std.proofs.Common.{◌≡◌, Ok, sym, ap, ◌∙◌}
+use Rattle.std.proofs.Common.{sym, ◌∙◌}
 use Rattle.behaviour.proofs.Answering.{told, item, no_item}
 use Rattle.behaviour.proofs.questions.BehaviourPart.code_word.Goals as goal
 

@@ -1,4 +1,4 @@
-use Rattle.std.proofs.Common.{◌≡◌, ◌-◌, ◌/◌, Ok, sym, ap, ◌∙◌, arith}
+use Rattle.std.proofs.Common.{◌-◌, ◌/◌, sym, ap, ◌∙◌, arith}
 use Rattle.words.specs.Words.{constant}
 use Rattle.sheet.specs.Layout.{urge}
 use Rattle.part.specs.Questions.{deadline_word_of}

@@ -1,4 +1,4 @@
-use Rattle.std.proofs.Common.{◌≡◌, Ok, sym, ap, ◌∙◌}
+use Rattle.std.proofs.Common.{sym, ap, ◌∙◌}
 use Rattle.part.specs.Questions.{guard_word_of}
 use Rattle.behaviour.proofs.Answering.{back_item, no_back_item}
 use Rattle.behaviour.proofs.questions.BehaviourPart.guard_word.Goals as goal

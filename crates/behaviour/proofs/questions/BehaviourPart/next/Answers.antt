@@ -1,4 +1,4 @@
-use Rattle.std.proofs.Common.{◌≡◌, ◌-◌, Some, None, Ok, sym, ap, ◌∙◌, arith}
+use Rattle.std.proofs.Common.{Some, None, Ok, sym, ap, ◌∙◌, arith}
 use Rattle.part.specs.Automata.{edge_here, ids_of}
 use Rattle.paths.specs.Paths.{path_of}
 use Rattle.behaviour.specs.Behaviours.{meaning_of}

@@ -1,4 +1,4 @@
-use Rattle.std.proofs.Common.{refl, arith, length-set}
+use Rattle.std.proofs.Common.{arith, length-set}
 use Rattle.lists.proofs.Writing.{put_more}
 use Rattle.lines.proofs.cursor.Cursor.put.Goals as goal
 

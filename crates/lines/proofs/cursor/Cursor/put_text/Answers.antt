@@ -1,4 +1,4 @@
-use Rattle.std.proofs.Common.{sym, arith}
+use Rattle.std.proofs.Common.{sym}
 use Rattle.std.proofs.lemmas.List.{take_more, take_all}
 use Rattle.lines.proofs.Sums.{put_then, put_as}
 use Rattle.lines.proofs.cursor.Cursor.put_text.Goals as goal

@@ -1,4 +1,4 @@
-use Rattle.std.proofs.Common.{◌≡◌, ℕ, suc, ◌-◌, List, ◌∷◌, sym, refl, ap, ◌∙◌}
+use Rattle.std.proofs.Common.{ℕ, ◌-◌, List, ◌∷◌, refl, ap, ◌∙◌}
 use Rattle.lists.specs.Reading.{branch_in, branches_in, behind_branch}
 use Rattle.listed.proofs.Passing.{next_one}
 use Rattle.listed.proofs.edges.ListedBranch.next.Goals as goal

@@ -1,4 +1,4 @@
-use Rattle.std.proofs.Common.{◌≡◌, ℕ, ◌+◌, ◌-◌, ◌≤◌, List, length, get_or, drop, sym, refl, ap, ◌∙◌, subst, arith}
+use Rattle.std.proofs.Common.{◌≡◌, ℕ, ◌+◌, ◌-◌, List, length, drop, sym, refl, ap, ◌∙◌, subst, arith}
 use Rattle.words.specs.Edges.{Branch}
 use Rattle.lists.specs.Reading.{branch_in, branches_in, behind_branch, branch_total, branch_words_in}
 use Rattle.listed.proofs.Passing.{count_items, pass_one, present}

@@ -1,4 +1,4 @@
-use Rattle.std.proofs.Common.{◌≡◌, ℕ, List, sym, refl, ◌∙◌}
+use Rattle.std.proofs.Common.{ℕ, List, sym, refl, ◌∙◌}
 use Rattle.lists.specs.Reading.{branch_in, branches_in, behind_branch, branch_total, branch_words_in}
 use Rattle.listed.proofs.Passing.{count_items}
 use Rattle.listed.proofs.edges.ListedEdge.branch_count.Goals as goal

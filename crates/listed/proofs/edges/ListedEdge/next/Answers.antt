@@ -1,4 +1,4 @@
-use Rattle.std.proofs.Common.{◌≡◌, ℕ, suc, ◌-◌, List, ◌∷◌, sym, refl, ap, ◌∙◌}
+use Rattle.std.proofs.Common.{ℕ, ◌-◌, List, ◌∷◌, refl, ap, ◌∙◌}
 use Rattle.lists.specs.Reading.{edge_in, edges_from, behind_edge}
 use Rattle.listed.proofs.Passing.{next_one}
 use Rattle.listed.proofs.edges.ListedEdge.next.Goals as goal

@@ -1,4 +1,4 @@
-use Rattle.std.proofs.Common.{◌≡◌, ◌++◌, map, take, ap, ◌∙◌, arith}
+use Rattle.std.proofs.Common.{◌++◌, map, take, ap, ◌∙◌, arith}
 use Rattle.std.proofs.lemmas.List.{take_all}
 use Rattle.words.specs.Words.{payload_of}
 use Rattle.paths.proofs.Pushed.{pushed_more}

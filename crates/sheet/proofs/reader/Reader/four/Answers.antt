@@ -1,4 +1,4 @@
-use Rattle.std.proofs.Common.{arith, rules, ltb-false, ltb-true}
+use Rattle.std.proofs.Common.{arith, ltb-false, ltb-true}
 use Rattle.sheet.proofs.Reading.{four_is}
 use Rattle.sheet.proofs.reader.Reader.four.Goals as goal
 

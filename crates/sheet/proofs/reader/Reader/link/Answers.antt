@@ -1,9 +1,8 @@
-use Rattle.std.proofs.Common.{◌≡◌, ◌-◌, ◌≤◌, sym, ap, ◌∙◌, arith}
-use Rattle.std.specs.List.{slice_get}
+use Rattle.std.proofs.Common.{◌≡◌, ◌-◌, sym, ap, ◌∙◌, arith}
 use Rattle.std.proofs.lemmas.Option.{slice_get_past}
 use Rattle.sheet.specs.Layout.{records}
 use Rattle.sheet.specs.Chains.{chain, links}
-use Rattle.sheet.proofs.Linked.{rest, whole_left, nth_next, nth_here, nth_none, length-links}
+use Rattle.sheet.proofs.Linked.{whole_left, nth_next, nth_here, nth_none, length-links}
 use Rattle.sheet.proofs.reader.Reader.link.Goals as goal
 
 pub returns-then-i-records : goal.returns-then-i-records
