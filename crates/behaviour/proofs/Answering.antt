@@ -4,7 +4,7 @@ use Rattle.std.proofs.ByRecursion.{All-get_or}
 use Rattle.std.proofs.lemmas.List.{length-map, length-reverse, get_or-reverse, get_or-map}
 use Rattle.std.proofs.lemmas.Option.{slice_get-get_or, slice_get_past}
 use Rattle.std.proofs.lemmas.Bool.{cond-false, ne_eqb}
-use Rattle.std.specs.List.{slice_get, AllByRecursion as All}
+use Rattle.std.specs.List.{slice_get, AllByRecursion}
 use Rattle.std.specs.Option.{option_map}
 use Rattle.words.specs.Edges.{Branch, Edge, leading_to}
 use Rattle.words.specs.Words.{payload_of, constant, condition, disjunction, frame_word}
@@ -46,7 +46,7 @@ told b r =
     cond-false (eqb (1 + greatest_span (sheet_of b) (table_of b)) 0) _ r
     (ne_eqb (1 + greatest_span (sheet_of b) (table_of b)) 0 (λ e. omega arith))
 
-all_nth : {X : Type 0} (P : X → Type 0) (xs : List X) (i : ℕ) (x : X) → All P xs → slice_get xs i ≡ Some x → P x
+all_nth : {X : Type 0} (P : X → Type 0) (xs : List X) (i : ℕ) (x : X) → AllByRecursion P xs → slice_get xs i ≡ Some x → P x
 all_nth P [] i x h e = absurd (let z : ◌≡◌ {A = ℕ} 0 1 = cc in omega arith)
 all_nth P (y ∷ ys) zero x h e = let q : y ≡ x = cc in subst P q h.0
 all_nth P (y ∷ ys) (suc i) x h e = all_nth P ys i x h.1 e
@@ -99,7 +99,7 @@ module _ (b : Behaviour) where
   pub no_branch : (id branch : ℕ) (e : OwnEdge) → EdgeHere b id e → None ≡ slice_get (outcomes_of (sheet_of b) e) branch → branch_of (edge_by_id (meaning_of b) id) branch ≡ Err NoBranch
   no_branch id branch e h is = branch_answer id branch e None h is
 
-  pub conditions_small : (id : ℕ) (e : OwnEdge) → EdgeHere b id e → All (λ c. c < 268435456) (words_of e.path.urgents)
+  pub conditions_small : (id : ℕ) (e : OwnEdge) → EdgeHere b id e → AllByRecursion (λ c. c < 268435456) (words_of e.path.urgents)
   conditions_small id e h =
       (path_full (sheet_of b) (table_of b) (loaded b.model) (here_of b) here_sound id (path_of e.path) (sym h.found)).right.conditioned
 
@@ -160,8 +160,8 @@ first_word ws rs cs u i same u_is z =
     let e : u ≡ constant (urge ws) = omega (arith, ap urge same) in
     ap (λ n. Ok n) e ∙ sym (ap (λ n. found NoItem (slice_get (constant (urge ws) ∷ urging cs) n)) z)
 
-pub small_at : (xs ys : List ℕ) (i : ℕ) → xs ≡ ys → i < length xs → All (λ c. c < 268435456) ys → get_or xs i 0 < 268435456
-small_at xs ys i e h all = All-get_or (λ c. c < 268435456) xs i 0 h (subst (All (λ c. c < 268435456)) (sym e) all)
+pub small_at : (xs ys : List ℕ) (i : ℕ) → xs ≡ ys → i < length xs → AllByRecursion (λ c. c < 268435456) ys → get_or xs i 0 < 268435456
+small_at xs ys i e h all = All-get_or (λ c. c < 268435456) xs i 0 h (subst (AllByRecursion (λ c. c < 268435456)) (sym e) all)
 
 -- assignments along a chain, read through words rs
 module _ (ws rs : List ℕ) (same : rs ≡ ws) (first : ℕ) where
@@ -189,11 +189,11 @@ outcome_code x h fs c g f b =
     ap (λ (y : Goal). code_of (standing y (drop x.behind (words_of x.frames)))) g
     ∙ (ap (λ ys. code_of (running (head_of h) ys)) (sym f) ∙ ap (λ y. cond y [] (head_word (head_of h) ∷ map frame_word fs)) (sym b))
 
-numbered_frames : (h : Top) (fs : List ℕ) → Numbered (running h fs) → All (λ f. f < 268435456) fs
+numbered_frames : (h : Top) (fs : List ℕ) → Numbered (running h fs) → AllByRecursion (λ f. f < 268435456) fs
 numbered_frames failed fs n = n
 numbered_frames (behaviour r) fs n = n.1
 
-pub frames_small : (x : OwnBranch) (h : Head) (fs : List ℕ) → x.goal ≡ At h → fs ≡ drop x.behind (words_of x.frames) → Numbered (outcome_of x) → All (λ f. f < 268435456) fs
+pub frames_small : (x : OwnBranch) (h : Head) (fs : List ℕ) → x.goal ≡ At h → fs ≡ drop x.behind (words_of x.frames) → Numbered (outcome_of x) → AllByRecursion (λ f. f < 268435456) fs
 frames_small x h fs g f n =
     numbered_frames (head_of h) fs
     (subst (λ ys. Numbered (running (head_of h) ys)) (sym f) (subst (λ (y : Goal). Numbered (standing y (drop x.behind (words_of x.frames)))) g n))

@@ -4,7 +4,7 @@ use Rattle.std.proofs.Common.{sym, ◌∙◌, ap, inl, inr, arith}
 use Rattle.std.proofs.ByRecursion.{All-map}
 use Rattle.std.proofs.lemmas.List.{length-map}
 use Rattle.std.proofs.lemmas.Bool.{eqb-false, eq-eqb, and_parts, or_parts, ltb-false, leb-true}
-use Rattle.std.specs.List.{AllByRecursion as All}
+use Rattle.std.specs.List.{AllByRecursion}
 use Rattle.words.specs.Words.{kind_of, payload_of, none}
 use Rattle.sheet.specs.Layout.{records, record_at}
 use Rattle.sheet.specs.Chains.{links, chain, total_weight, survey_of}
@@ -26,18 +26,18 @@ module _ (ws : List ℕ) where
     pub leads : Successor w.successor
 
   links-right : (m : ℕ) (P : ℕ → Type 0) → ((r : ℕ) → r < records ws → Kind ws m r → P r × Linked ws m (record_at ws r).three)
-      → (fuel first : ℕ) → Linked ws m first → All P (links ws fuel first)
+      → (fuel first : ℕ) → Linked ws m first → AllByRecursion P (links ws fuel first)
   links-right m P step zero first h = tt
   links-right m P step (suc fuel) first h = go (first == none) refl h (links-right m P step fuel)
     where
-      go : (b : Bool) → (first == none) ≡ b → Linked ws m first → ((r : ℕ) → Linked ws m r → All P (links ws fuel r))
-          → All P (cond b [] (first ∷ links ws fuel (record_at ws first).three))
+      go : (b : Bool) → (first == none) ≡ b → Linked ws m first → ((r : ℕ) → Linked ws m r → AllByRecursion P (links ws fuel r))
+          → AllByRecursion P (cond b [] (first ∷ links ws fuel (record_at ws first).three))
       go true e q rec = tt
       go false e (inl q) rec = absurd (eqb-false first none e q)
       go false e (inr (inside, kind)) rec = let s = step first inside kind in (s.0, rec (record_at ws first).three s.1)
 
   chain-right : (m : ℕ) (P : ℕ → Type 0) → ((r : ℕ) → r < records ws → Kind ws m r → P r × Linked ws m (record_at ws r).three)
-      → (first : ℕ) → Linked ws m first → All P (chain ws first)
+      → (first : ℕ) → Linked ws m first → AllByRecursion P (chain ws first)
   unfolding chain
   chain-right m P step first h = links-right m P step (records ws) first h
 
@@ -87,10 +87,10 @@ module _ (ws : List ℕ) where
           maybe_linked ws t l r inside 2 (record_at ws r).three (admitted ws t l r inside 2 3 (omega arith) kind),
         )
 
-    pub ways_right : (first : ℕ) → Linked ws 2 first → All WayRight (ways_from ws first)
+    pub ways_right : (first : ℕ) → Linked ws 2 first → AllByRecursion WayRight (ways_from ws first)
     ways_right first h = All-map WayRight (way_at ws) (chain ws first) (chain-right 2 (λ r. WayRight (way_at ws r)) way_right first h)
 
-    pub clauses_right : (first : ℕ) → Linked ws 10 first → All (λ (c : Clause). Kin ws c.handler) (clauses_from ws first)
+    pub clauses_right : (first : ℕ) → Linked ws 10 first → AllByRecursion (λ (c : Clause). Kin ws c.handler) (clauses_from ws first)
     unfolding clause_at
     clauses_right first h =
         All-map (λ (c : Clause). Kin ws c.handler) (clause_at ws) (chain ws first)

@@ -7,7 +7,7 @@ use native.Mathlib.Omega.{arith}
 use Rattle.std.proofs.ByRecursion.{All-map, All-weaker}
 use Rattle.std.proofs.lemmas.List.{length-map}
 use Rattle.std.proofs.lemmas.Bool.{cases_lt, false≢true, eqb-true, eq-eqb}
-use Rattle.std.specs.List.{AllByRecursion as All}
+use Rattle.std.specs.List.{AllByRecursion}
 use Rattle.words.specs.Edges.{Branch, Edge, leading_to}
 use Rattle.words.specs.Words.{kind_of, observable, exception, breaking, failing, constant, condition, disjunction}
 use Rattle.sheet.specs.declared.step.Step.{Step}
@@ -35,7 +35,7 @@ use Rattle.behaviour.specs.ChainsRight.{Successor, WayRight, ways_right}
 use Rattle.behaviour.specs.Standing.{Sound, cut-sound, outcome_sound}
 
 -- a deadline with more reasons
-reasons : (left cs : List ℕ) → Term left → All (λ c. c < 268435456) cs → Term (left ++ urging cs)
+reasons : (left cs : List ℕ) → Term left → AllByRecursion (λ c. c < 268435456) cs → Term (left ++ urging cs)
 reasons left [] d h = combined_same left d
   where
     combined_same : (xs : List ℕ) → Term xs → Term (xs ++ [])
@@ -71,7 +71,7 @@ module _ (ws t : List ℕ) (l : Loaded ws t) where
     pub recognised : observable e.action ≡ true → knows_in ws e.action ≡ true
     pub term : Term e.deadline
     pub branched : 0 < length e.branches
-    pub branches : All BranchRight e.branches
+    pub branches : AllByRecursion BranchRight e.branches
     pub guarded : length e.guard ≤ 63
     pub urged : length e.deadline ≤ 127
     pub weighs : weighing e.branches ≤ greatest_weight ws
@@ -80,7 +80,7 @@ module _ (ws t : List ℕ) (l : Loaded ws t) where
   record OwnRight (a : ℕ) (bs : List (Branch Place)) : Type 0 where
     recognised : observable a ≡ true → knows_in ws a ≡ true
     branched : 0 < length bs
-    branches : All BranchRight bs
+    branches : AllByRecursion BranchRight bs
     weighs : weighing bs ≤ greatest_weight ws
 
   one_below : 1 ≤ greatest_weight ws
@@ -103,7 +103,7 @@ module _ (ws t : List ℕ) (l : Loaded ws t) where
   way_branch : (w : Way) → WayRight ws w → BranchRight (branch_of w)
   way_branch w h = record { weighs = h.weighs; few = h.few; leads = on_right w.successor h.leads }
 
-  ways_branches : (xs : List Way) → All (WayRight ws) xs → (0 < length (branches_of xs)) × All BranchRight (branches_of xs)
+  ways_branches : (xs : List Way) → AllByRecursion (WayRight ws) xs → (0 < length (branches_of xs)) × AllByRecursion BranchRight (branches_of xs)
   ways_branches [] h = (lit< tt, (record { weighs = lit< tt; few = lit≤ tt; leads = tt }, tt))
   ways_branches (x ∷ xs) h = (omega arith, All-map BranchRight branch_of (x ∷ xs) (All-weaker (WayRight ws) (λ w. BranchRight (branch_of w)) way_branch (x ∷ xs) h))
 
@@ -169,7 +169,7 @@ module _ (ws t : List ℕ) (l : Loaded ws t) where
     pub right : PathRight ws p
     pub few : length p.whens + length p.urgents ≤ 63
 
-  passed_branches : (fs : List ℕ) (bs : List (Branch Place)) → Frames (term_at ws) fs → All BranchRight bs → All BranchRight (map (leading_to (outcome_under (term_at ws) fs)) bs)
+  passed_branches : (fs : List ℕ) (bs : List (Branch Place)) → Frames (term_at ws) fs → AllByRecursion BranchRight bs → AllByRecursion BranchRight (map (leading_to (outcome_under (term_at ws) fs)) bs)
   passed_branches fs bs f h =
       All-map BranchRight (leading_to (outcome_under (term_at ws) fs)) bs
       (All-weaker BranchRight (λ b. BranchRight (leading_to (outcome_under (term_at ws) fs) b)) (λ b r. record { weighs = r.weighs; few = r.few; leads = outcome_sound ws t l fs b.outcome f r.leads }) bs h)

@@ -7,7 +7,7 @@ use Rattle.std.proofs.ByRecursion.{All-map, All-weaker, All-append}
 use Rattle.std.proofs.lemmas.List.{length-map}
 use Rattle.std.proofs.lemmas.List.Sums.{sum-map, sum_by-cons}
 use Rattle.std.specs.Option.{option_map}
-use Rattle.std.specs.List.{AllByRecursion as All}
+use Rattle.std.specs.List.{AllByRecursion}
 use Rattle.words.specs.Edges.{Branch, Edge, leading_to}
 use Rattle.words.specs.Words.{record_word}
 use Rattle.sheet.specs.declared.step.Step.{Step}
@@ -141,9 +141,9 @@ module _ (ws t : List ℕ) (l : Loaded ws t) where
       ∙ listed_by_id coded (edge_at (term_at ws) (urge ws) 65 (place_of code)) (ids code) 0 (greatest_span ws t) (λ i. ap (ids code) (zero-add i))
 
   coded-right : (P : Edge (List ℕ) → Type 0) → ((e : Edge Place) → EdgeRight ws t l e → P (coded e)) → (code : List ℕ) → is_place ws code ≡ true
-      → All P (map coded (edges_at (term_at ws) (urge ws) 65 (place_of code)))
+      → AllByRecursion P (map coded (edges_at (term_at ws) (urge ws) 65 (place_of code)))
   coded-right P holds code h =
-      subst (All P) (sym (edges_by_id code h))
+      subst (AllByRecursion P) (sym (edges_by_id code h))
       (all_occupied P (ids code)
       (λ id x e.
       let m = mapped_some coded (edge_at (term_at ws) (urge ws) 65 (place_of code) id) x e in

@@ -7,7 +7,7 @@ use Rattle.std.proofs.Math.Logic.{⊎_elim}
 use Rattle.std.proofs.ByRecursion.{All-append, All-weaker}
 use Rattle.std.proofs.lemmas.List.{length-map}
 use Rattle.std.proofs.lemmas.Bool.{cases_lt, false≢true, eqb-true, ne_eqb, eq-eqb, and_parts, and_from, or_right, lt-ltb, ltb-false, le-leb, leb-true, cond-false}
-use Rattle.std.specs.List.{AllByRecursion as All}
+use Rattle.std.specs.List.{AllByRecursion}
 use Rattle.words.specs.Words.{kind_of, payload_of, breaking, exception, record_word, frame_word, done as doneWord, failed as failedWord}
 use Rattle.sheet.specs.declared.step.Step.{Step}
 use Rattle.sheet.specs.declared.step.Step.TheVariants.{Stop, Act, Break, Throw, Alt, Seq, Loop, Try, When, Urgent, Call, Link}
@@ -76,7 +76,7 @@ module _ (ws t : List ℕ) (l : Loaded ws t) where
   abbrev RoleRight : Role → Type 0
   RoleRight (Onward b) = Kin ws b
   RoleRight Again = Unit {0}
-  RoleRight (Catching cs) = All (λ (c : Clause). Kin ws c.handler) cs
+  RoleRight (Catching cs) = AllByRecursion (λ (c : Clause). Kin ws c.handler) cs
   RoleRight Unframed = Unit {0}
 
   role_by : (s : Step) → StepRight ws s → RoleRight (role_of (term_of ws s))
@@ -97,7 +97,7 @@ module _ (ws t : List ℕ) (l : Loaded ws t) where
   unfolding term_at
   role_right f = role_by (step_at ws f) (step_right ws t l f)
 
-  first_kin : (cs : List Clause) (a h : ℕ) → All (λ (c : Clause). Kin ws c.handler) cs → first_for cs a ≡ Some h → Kin ws h
+  first_kin : (cs : List Clause) (a h : ℕ) → AllByRecursion (λ (c : Clause). Kin ws c.handler) cs → first_for cs a ≡ Some h → Kin ws h
   first_kin [] a h r e = absurd (let z : ◌≡◌ {A = ℕ} 0 1 = cc in omega arith)
   first_kin (c ∷ cs) a h r e = go (c.catches == a) e (first_kin cs a h r.1)
     where
@@ -105,7 +105,7 @@ module _ (ws t : List ℕ) (l : Loaded ws t) where
       go true q rec = subst (Kin ws) (cc) r.0
       go false q rec = rec q
 
-  handler_right : (cs : List Clause) (a h : ℕ) → All (λ (c : Clause). Kin ws c.handler) cs → handler_of cs a ≡ Some h → Kin ws h
+  handler_right : (cs : List Clause) (a h : ℕ) → AllByRecursion (λ (c : Clause). Kin ws c.handler) cs → handler_of cs a ≡ Some h → Kin ws h
   handler_right cs a h r e = go (exception a) e
     where
       go : (b : Bool) → cond b (first_for cs a) None ≡ Some h → Kin ws h
@@ -155,7 +155,7 @@ module _ (ws t : List ℕ) (l : Loaded ws t) where
   small : (r : ℕ) → Kin ws r → r < 268435456
   small r k = omega (arith, kin_inside ws r k, few_records ws t l)
 
-  small_frames : (fs : List ℕ) → Frames (term_at ws) fs → All (λ f. f < 268435456) fs
+  small_frames : (fs : List ℕ) → Frames (term_at ws) fs → AllByRecursion (λ f. f < 268435456) fs
   small_frames fs h = All-weaker _ _ (λ f q. small f (frame_kin f q)) fs h
 
   pub numbered : (p : Place) → Sound p → Numbered p

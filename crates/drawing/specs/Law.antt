@@ -7,7 +7,7 @@ use Rattle.std.proofs.ByRecursion.{All-map, all_kept_by}
 use Rattle.std.proofs.lemmas.List.{length-map}
 use Rattle.std.proofs.lemmas.Option.{slice_get_past}
 use Rattle.std.proofs.lemmas.Bool.{false≢true, and_parts, or_cases, eqb-true, ltb-true, leb-true, ne_eqb, cond_both, cond-false}
-use Rattle.std.specs.List.{range_with_len, AllByRecursion as All, slice_get}
+use Rattle.std.specs.List.{range_with_len, AllByRecursion, slice_get}
 use Rattle.words.specs.Edges.{Edge}
 use Rattle.words.specs.Words.{kind_of, payload_of, tau, observable, exception, constant, condition, done}
 use Rattle.part.specs.Deadlines.{Term, always, whenever}
@@ -26,11 +26,11 @@ use Rattle.drawing.specs.Facts.{header_bounds, start_drawn, row_is_right}
 use Rattle.drawing.specs.PlaceRows.{at_most, rows_few}
 
 -- lists of numbered things, and things by number
-all_counted : {X : Type 0} (P : X → Type 0) (f : ℕ → X) (a n : ℕ) → ((r : ℕ) → r < a + n → P (f r)) → All P (map f (range_with_len a n))
+all_counted : {X : Type 0} (P : X → Type 0) (f : ℕ → X) (a n : ℕ) → ((r : ℕ) → r < a + n → P (f r)) → AllByRecursion P (map f (range_with_len a n))
 all_counted P f a zero h = tt
 all_counted P f a (suc n) h = (h a (omega arith), all_counted P f (a + 1) n (λ r l. h r (omega arith)))
 
-kept-none : {X : Type 0} (p : X → Bool) (xs : List X) → All (λ x. p x ≡ false) xs → filter p xs ≡ []
+kept-none : {X : Type 0} (p : X → Bool) (xs : List X) → AllByRecursion (λ x. p x ≡ false) xs → filter p xs ≡ []
 kept-none p [] h = refl
 kept-none p (x ∷ xs) h = cond-false (p x) _ _ h.0 ∙ kept-none p xs h.1
 
@@ -91,7 +91,7 @@ module _ (ws : List ℕ) (head : Headed ws) (t : Tabled ws) where
       }
 
   -- what holds of the edge of every row holds of the edges of a place
-  rows_all : (P : Edge (List ℕ) → Type 0) → ((r : ℕ) → r < row_count ws → P (row_edge (row_at ws r))) → (w : ℕ) → All P (map row_edge (rows_from ws w))
+  rows_all : (P : Edge (List ℕ) → Type 0) → ((r : ℕ) → r < row_count ws → P (row_edge (row_at ws r))) → (w : ℕ) → AllByRecursion P (map row_edge (rows_from ws w))
   unfolding rows_from
   rows_all P holds w =
       All-map P row_edge (filter (λ (row : Row). nat_eq row.from w) (rows_of ws))

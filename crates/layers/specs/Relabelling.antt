@@ -6,7 +6,7 @@ use Rattle.std.proofs.Common.{ap, ◌∙◌, arith}
 use Rattle.std.proofs.ByRecursion.{All-map, All-weaker}
 use Rattle.std.proofs.lemmas.List.{length-map}
 use Rattle.std.specs.Option.{option_map}
-use Rattle.std.specs.List.{AllByRecursion as All}
+use Rattle.std.specs.List.{AllByRecursion}
 use Rattle.words.specs.Edges.{Edge}
 use Rattle.words.specs.Words.{observable}
 use Rattle.part.specs.Ids.{prefixed, occupied}
@@ -39,7 +39,7 @@ module _ (f : ℕ → ℕ) (knows knows' : ℕ → Bool) (is_place : List ℕ �
         branches = l.branches;
       }
 
-  pub edges_lawful : (es : List (Edge (List ℕ))) → All (LawfulEdge knows is_place) es → All (LawfulEdge knows' is_place) (map (relabelled f) es)
+  pub edges_lawful : (es : List (Edge (List ℕ))) → AllByRecursion (LawfulEdge knows is_place) es → AllByRecursion (LawfulEdge knows' is_place) (map (relabelled f) es)
   edges_lawful es l =
       All-map (LawfulEdge knows' is_place) (relabelled f) es
       (All-weaker (LawfulEdge knows is_place) (λ e. LawfulEdge knows' is_place (relabelled f e)) edge_lawful es l)

@@ -3,7 +3,7 @@ use Rattle.std.proofs.Common.{◌≡◌, ℕ, zero, suc, ◌-◌, ◌<◌, ◌�
 use Rattle.std.proofs.ByRecursion.{All-weaker}
 use Rattle.std.proofs.lemmas.List.Sums.{sum-map}
 use Rattle.std.proofs.lemmas.Bool.{ne_eqb}
-use Rattle.std.specs.List.{AllByRecursion as All}
+use Rattle.std.specs.List.{AllByRecursion}
 use Rattle.words.specs.Edges.{Branch, Edge}
 use Rattle.part.specs.Automata.{Meaning, edges_here}
 use Rattle.part.specs.Laws.{Lawful, LawfulCeilings, LawfulEdge, EdgeFits, BranchFits}
@@ -23,17 +23,17 @@ edge_countable c knows is_place e ceilings fits lawful = record {
   outcomes = All-weaker (BranchFits c) (λ b. length b.outcome < 268435456) (λ b h. omega (arith, h.outcome, ceilings.size)) e.branches fits.branches;
 }
 
-all_countable : (c : Ceilings) (knows : ℕ → Bool) (is_place : List ℕ → Bool) (es : List (Edge (List ℕ))) → LawfulCeilings c → All (EdgeFits c) es → All (LawfulEdge knows is_place) es → All Countable es
+all_countable : (c : Ceilings) (knows : ℕ → Bool) (is_place : List ℕ → Bool) (es : List (Edge (List ℕ))) → LawfulCeilings c → AllByRecursion (EdgeFits c) es → AllByRecursion (LawfulEdge knows is_place) es → AllByRecursion Countable es
 all_countable c knows is_place [] ceilings fits lawful = tt
 all_countable c knows is_place (e ∷ es) ceilings fits lawful =
     (edge_countable c knows is_place e ceilings fits.0 lawful.0, all_countable c knows is_place es ceilings fits.1 lawful.1)
 
 -- the leading edges are among the edges
-all_leading : (P : Edge (List ℕ) → Type 0) (room : ℕ) (es : List (Edge (List ℕ))) → All P es → All P (leading room es)
+all_leading : (P : Edge (List ℕ) → Type 0) (room : ℕ) (es : List (Edge (List ℕ))) → AllByRecursion P es → AllByRecursion P (leading room es)
 all_leading P room [] h = tt
 all_leading P room (e ∷ es) h = go (leb _ room) _ (all_leading P (room - length (edge_words e)) es h.1)
   where
-    go : (b : Bool) (xs : List (Edge (List ℕ))) → All P xs → All P (cond b (e ∷ xs) [])
+    go : (b : Bool) (xs : List (Edge (List ℕ))) → AllByRecursion P xs → AllByRecursion P (cond b (e ∷ xs) [])
     go true xs k = (h.0, k)
     go false xs k = tt
 

@@ -2,7 +2,7 @@
 use Rattle.std.proofs.Common.{◌≡◌, ℕ, zero, suc, ◌+◌, ◌<◌, ◌≤◌, Bool, true, false, eqb, ◌⊎◌, List, [], ◌∷◌, length, Some, None, Ok, Err, sum_by, Option, refl, subst, inl, inr, arith}
 use Rattle.std.proofs.lemmas.List.Sums.{sum_by-cons, sum-map}
 use Rattle.std.proofs.lemmas.Bool.{eqb-false}
-use Rattle.std.specs.List.{AllByRecursion as All, slice_get}
+use Rattle.std.specs.List.{AllByRecursion, slice_get}
 use Rattle.words.specs.Edges.{Branch, Edge}
 use Rattle.words.specs.declared.Refusal.TheVariants.{NoEdge, NoBranch}
 use Rattle.part.specs.Automata.{Meaning, edges_here, edge_here, ids_of}
@@ -26,11 +26,11 @@ edge_here_lem M id e h = go (eqb M.automaton.ceilings.edges 0) refl
 
 module _ (M : Meaning) (law : Lawful M) where
   -- what holds of all edges where the part stands holds of the edge with an id
-  of_all : (P : Edge (List ℕ) → Type 0) → All P (edges_here M) → (id : ℕ) (e : Edge (List ℕ)) → edge_by_id M id ≡ Ok e → P e
+  of_all : (P : Edge (List ℕ) → Type 0) → AllByRecursion P (edges_here M) → (id : ℕ) (e : Edge (List ℕ)) → edge_by_id M id ≡ Ok e → P e
   of_all P all id e is =
       let here = edge_here_lem M id e is in
       let fits = (law.places M.place law.here).fits here.0 in
-      let Q : List (Edge (List ℕ)) → Type 0 = λ es. All P es in
+      let Q : List (Edge (List ℕ)) → Type 0 = λ es. AllByRecursion P es in
       occupied_has P (edge_here M) 0 (ids_of M) (subst Q fits.ids all) id e (omega arith) (below fits here (cases id)) here.1
     where
       cases : (id : ℕ) → (M.automaton.ceilings.edges ≤ id + 1) ⊎ (id + 1 < M.automaton.ceilings.edges)
@@ -47,13 +47,13 @@ module _ (M : Meaning) (law : Lawful M) where
   edge_lawful id e is = of_all (LawfulEdge M.automaton.knows M.automaton.is_place) (law.places M.place law.here).edges id e is
 
 -- an edge has no more branches than weight
-pub branches_weigh : (is_place : List ℕ → Bool) (bs : List (Branch (List ℕ))) → All (LawfulBranch is_place) bs → length bs ≤ sum_by (λ b. b.weight) bs
+pub branches_weigh : (is_place : List ℕ → Bool) (bs : List (Branch (List ℕ))) → AllByRecursion (LawfulBranch is_place) bs → length bs ≤ sum_by (λ b. b.weight) bs
 branches_weigh is_place [] h = omega arith
 branches_weigh is_place (b ∷ bs) h =
     let rest = branches_weigh is_place bs h.1 in
     omega (arith, h.0.weighs, rest, sum_by-cons (λ (b : Branch (List ℕ)). b.weight) b bs)
 
-nth_all : {X : Type 0} (P : X → Type 0) (xs : List X) (i : ℕ) (x : X) → All P xs → slice_get xs i ≡ Some x → P x
+nth_all : {X : Type 0} (P : X → Type 0) (xs : List X) (i : ℕ) (x : X) → AllByRecursion P xs → slice_get xs i ≡ Some x → P x
 nth_all P [] i x all is = absurd (let z : ◌≡◌ {A = ℕ} 0 1 = cc in omega arith)
 nth_all P (y ∷ ys) zero x all is = subst P (cc) all.0
 nth_all P (y ∷ ys) (suc i) x all is = nth_all P ys i x all.1 is

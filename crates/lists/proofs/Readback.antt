@@ -2,7 +2,7 @@
 use Rattle.std.proofs.Common.{◌≡◌, ℕ, suc, ◌*◌, ◌<◌, List, [], ◌∷◌, ◌++◌, length, take, drop, sym, refl, ap, ◌∙◌, append_assoc, mod-eq_of_lt}
 use lib.Arith.{digits_mod}
 use Rattle.std.proofs.lemmas.List.{take_at, drop_at}
-use Rattle.std.specs.List.{flat_map, AllByRecursion as All}
+use Rattle.std.specs.List.{flat_map, AllByRecursion}
 use Rattle.words.specs.Edges.{Branch, Edge}
 use Rattle.words.specs.Words.{word, payload_of}
 use Rattle.lists.specs.Format.{pair_words, count_word, branch_words, edge_words, list_words}
@@ -38,7 +38,7 @@ module _ (b : Branch (List ℕ)) (few : length b.assignments < 268435456) (short
       let after : drop (payload_of (length b.outcome)) (b.outcome ++ rest) ≡ rest = drop_at b.outcome rest _ (sym m) in
       (rw (row, behind, out, pairs_back b.assignments) refl, rw (behind, after) refl)
 
-branches_back : (bs : List (Branch (List ℕ))) (rest : List ℕ) → All (λ b. length b.assignments < 268435456) bs → All (λ b. length b.outcome < 268435456) bs → (branches_in (length bs) (flat_map branch_words bs ++ rest) ≡ bs) × (behind_branches (length bs) (flat_map branch_words bs ++ rest) ≡ rest)
+branches_back : (bs : List (Branch (List ℕ))) (rest : List ℕ) → AllByRecursion (λ b. length b.assignments < 268435456) bs → AllByRecursion (λ b. length b.outcome < 268435456) bs → (branches_in (length bs) (flat_map branch_words bs ++ rest) ≡ bs) × (behind_branches (length bs) (flat_map branch_words bs ++ rest) ≡ rest)
 branches_back [] rest few short = (refl, refl)
 branches_back (b ∷ bs) rest few short =
     let split : (branch_words b ++ flat_map branch_words bs) ++ rest ≡ plain b few.0 short.0 (flat_map branch_words bs ++ rest) =
@@ -79,7 +79,7 @@ module _ (e : Edge (List ℕ)) (countable : Countable e) (rest : List ℕ) where
       let back = branches_back e.branches rest countable.assignments countable.outcomes in
       (rw (guard, behind, deadline, after, k, back.0) refl, rw (behind, after, k) back.1)
 
-pub edges_back : (es : List (Edge (List ℕ))) (rest : List ℕ) → All Countable es → edges_from (length es) (flat_map edge_words es ++ rest) ≡ es
+pub edges_back : (es : List (Edge (List ℕ))) (rest : List ℕ) → AllByRecursion Countable es → edges_from (length es) (flat_map edge_words es ++ rest) ≡ es
 edges_back [] rest h = refl
 edges_back (e ∷ es) rest h =
     let more : List ℕ = flat_map edge_words es ++ rest in
@@ -91,6 +91,6 @@ edges_back (e ∷ es) rest h =
     ∙ ap (λ (xs : List (Edge (List ℕ))). e ∷ xs) (ap (edges_from (length es)) back.1 ∙ edges_back es rest h.1))
 
 -- the theorem
-pub list_back : (es : List (Edge (List ℕ))) (rest : List ℕ) → All Countable es → length es < 268435456 → edges_in (list_words es ++ rest) ≡ es
+pub list_back : (es : List (Edge (List ℕ))) (rest : List ℕ) → AllByRecursion Countable es → length es < 268435456 → edges_in (list_words es ++ rest) ≡ es
 unfolding list_words
 list_back es rest h few = ap (λ (n : ℕ). edges_from n (flat_map edge_words es ++ rest)) (payload_word 12 (length es) few) ∙ edges_back es rest h

@@ -2,7 +2,7 @@
 --
 -- A word that is missing reads as 0, and a row that is cut short is as long as the words are.
 use Rattle.std.specs.Prelude.{ℕ, zero, suc, ◌*◌, ◌<◌, List, [], ◌∷◌, length, take, drop, slice_index}
-use Rattle.std.specs.List.{AllByRecursion as All}
+use Rattle.std.specs.List.{AllByRecursion}
 use Rattle.words.specs.Edges.{Branch, Edge}
 use Rattle.words.specs.Words.{payload_of}
 use Rattle.lists.specs.Format.{payloads}
@@ -89,5 +89,5 @@ pub record Countable (e : Edge (List ℕ)) : Type 0 where
   pub guard : length e.guard < payloads
   pub deadline : length e.deadline < payloads
   pub branches : length e.branches < payloads
-  pub assignments : All (λ b. length b.assignments < payloads) e.branches
-  pub outcomes : All (λ b. length b.outcome < payloads) e.branches
+  pub assignments : AllByRecursion (λ b. length b.assignments < payloads) e.branches
+  pub outcomes : AllByRecursion (λ b. length b.outcome < payloads) e.branches

@@ -1,6 +1,6 @@
 // Reading starts from the counts of a list, which only ending the list gives.
 ghost use Rattle.std.specs.Prelude.{◌≡◌, ℕ, ◌<◌, List as Row, ◌++◌, length};
-ghost use Rattle.std.specs.List.{AllByRecursion as All};
+ghost use Rattle.std.specs.List.{AllByRecursion};
 ghost use Rattle.words.specs.Edges.{Edge};
 ghost use Rattle.lists.specs.Format.{list_words, payloads};
 ghost use Rattle.lists.specs.Reading.{edges_in, Countable};
@@ -17,7 +17,7 @@ impl Counts {
     /// Opens the words of an ended list for reading. A list determines its edges: they are what is read.
     pub fn read(self, words: &[u32]) -> List<'_>
         ensures opened { result.words.now ≡ words.now }
-        ensures determined { (es : Row (Edge (Row ℕ))) (rest : Row ℕ) → All Countable es → length es < payloads
+        ensures determined { (es : Row (Edge (Row ℕ))) (rest : Row ℕ) → AllByRecursion Countable es → length es < payloads
             → words.now ≡ list_words es ++ rest → edges_in result.words.now ≡ es }
     {
         List { words }

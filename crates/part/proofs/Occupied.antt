@@ -1,13 +1,13 @@
 -- Ids and what stands at them: lemmas for makes, and that hopping by `least_occupied` meets exactly what `occupied` lists.
 use Rattle.std.proofs.Common.{◌≡◌, ℕ, zero, suc, ◌+◌, ◌-◌, ◌<◌, ◌≤◌, ◌⊎◌, List, [], ◌∷◌, ◌++◌, length, Some, None, Option, refl, ap, ◌∙◌, subst, inl, inr, add-zero, zero-add, arith}
-use Rattle.std.specs.List.{AllByRecursion as All}
+use Rattle.std.specs.List.{AllByRecursion}
 use Rattle.part.specs.Ids.{prefixed, occupied, occupied_ids, or_else, least_occupied}
 
 length-prefixed : {X : Type 0} (o : Option X) (xs : List X) (n : ℕ) → length xs ≤ n → length (prefixed o xs) ≤ suc n
 length-prefixed (Some x) xs n h = omega arith
 length-prefixed None xs n h = omega arith
 
-all_prefixed : {X : Type 0} (P : X → Type 0) (o : Option X) (xs : List X) → ((x : X) → o ≡ Some x → P x) → All P xs → All P (prefixed o xs)
+all_prefixed : {X : Type 0} (P : X → Type 0) (o : Option X) (xs : List X) → ((x : X) → o ≡ Some x → P x) → AllByRecursion P xs → AllByRecursion P (prefixed o xs)
 all_prefixed P (Some x) xs h hs = (h x refl, hs)
 all_prefixed P None xs h hs = hs
 
@@ -18,20 +18,20 @@ length-occupied f from (suc count) =
     length-prefixed (f from) (occupied f (suc from) count) count (length-occupied f (suc from) count)
 
 -- what holds of each thing at its id holds of each in the list
-pub all_occupied : {X : Type 0} (P : X → Type 0) (f : ℕ → Option X) → ((id : ℕ) (x : X) → f id ≡ Some x → P x) → (from count : ℕ) → All P (occupied f from count)
+pub all_occupied : {X : Type 0} (P : X → Type 0) (f : ℕ → Option X) → ((id : ℕ) (x : X) → f id ≡ Some x → P x) → (from count : ℕ) → AllByRecursion P (occupied f from count)
 all_occupied P f h from zero = tt
 all_occupied P f h from (suc count) = all_prefixed P (f from) _ (h from) (all_occupied P f h (suc from) count)
 
 -- and what holds of each in the list holds at each id among those looked at
-here_prefixed : {X : Type 0} (P : X → Type 0) (o : Option X) (xs : List X) (x : X) → o ≡ Some x → All P (prefixed o xs) → P x
+here_prefixed : {X : Type 0} (P : X → Type 0) (o : Option X) (xs : List X) (x : X) → o ≡ Some x → AllByRecursion P (prefixed o xs) → P x
 here_prefixed P (Some y) xs x e h = subst P (cc) h.0
 here_prefixed P None xs x e h = absurd (let z : ◌≡◌ {A = ℕ} 0 1 = cc in omega arith)
 
-rest-prefixed : {X : Type 0} (P : X → Type 0) (o : Option X) (xs : List X) → All P (prefixed o xs) → All P xs
+rest-prefixed : {X : Type 0} (P : X → Type 0) (o : Option X) (xs : List X) → AllByRecursion P (prefixed o xs) → AllByRecursion P xs
 rest-prefixed P (Some y) xs h = h.1
 rest-prefixed P None xs h = h
 
-pub occupied_has : {X : Type 0} (P : X → Type 0) (f : ℕ → Option X) (from count : ℕ) → All P (occupied f from count) → (id : ℕ) (x : X) → from ≤ id → id < from + count → f id ≡ Some x → P x
+pub occupied_has : {X : Type 0} (P : X → Type 0) (f : ℕ → Option X) (from count : ℕ) → AllByRecursion P (occupied f from count) → (id : ℕ) (x : X) → from ≤ id → id < from + count → f id ≡ Some x → P x
 occupied_has P f from zero hs id x low high e = absurd (omega arith)
 occupied_has {X} P f from (suc count) hs id x low high e =
     go (cases from id low)

@@ -4,7 +4,7 @@
 -- edges: one more than the edges, and above every id; weight: the total weight of an edge's branches;
 -- size: the guard, the assignments, one more than the deadline, one more than a place's code.
 use Rattle.std.specs.Prelude.{◌≡◌, ℕ, ◌+◌, ◌-◌, ◌<◌, ◌≤◌, Bool, true, false, List, [], map, length, None, sum, Option, ◌≢◌}
-use Rattle.std.specs.List.{AllByRecursion as All}
+use Rattle.std.specs.List.{AllByRecursion}
 use Rattle.words.specs.Edges.{Branch, Edge}
 use Rattle.words.specs.Words.{observable}
 use Rattle.part.specs.Automata.{Automaton, Meaning}
@@ -35,7 +35,7 @@ pub record LawfulEdge (knows : ℕ → Bool) (is_place : List ℕ → Bool) (e :
   pub known : observable e.action ≡ true → knows e.action ≡ true
   pub term : Term e.deadline
   pub branched : 0 < length e.branches
-  pub branches : All (LawfulBranch is_place) e.branches
+  pub branches : AllByRecursion (LawfulBranch is_place) e.branches
 
 -- what holds under ceilings that are told
 abbrev pub total_weight : Edge (List ℕ) → ℕ
@@ -49,18 +49,18 @@ pub record EdgeFits (c : Ceilings) (e : Edge (List ℕ)) : Type 0 where
   pub guard : length e.guard ≤ c.size
   pub deadline : length e.deadline < c.size
   pub weight : total_weight e ≤ c.weight
-  pub branches : All (BranchFits c) e.branches
+  pub branches : AllByRecursion (BranchFits c) e.branches
 
 pub record PlaceFits (c : Ceilings) (edges : List (Edge (List ℕ))) (edge_at : ℕ → Option (Edge (List ℕ))) (p : List ℕ) : Type 0 where
   pub code : length p < c.size
   pub count : length edges < c.edges
-  pub each : All (EdgeFits c) edges
+  pub each : AllByRecursion (EdgeFits c) edges
   -- the occupied ids, rising, give the edges in their order
   pub ids : edges ≡ occupied edge_at 0 (c.edges - 1)
   pub vacant : (id : ℕ) → c.edges ≤ id + 1 → edge_at id ≡ None
 
 pub record LawfulPlace (A : Automaton) (p : List ℕ) : Type 0 where
-  pub edges : All (LawfulEdge A.knows A.is_place) (A.edges p)
+  pub edges : AllByRecursion (LawfulEdge A.knows A.is_place) (A.edges p)
   pub fits : 0 < A.ceilings.edges → PlaceFits A.ceilings (A.edges p) (A.edge_at p) p
 
 pub record Lawful (M : Meaning) : Type 0 where

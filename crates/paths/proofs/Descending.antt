@@ -2,7 +2,7 @@
 use Rattle.std.proofs.Common.{◌≡◌, ℕ, zero, suc, ◌-◌, ◌<◌, ◌≤◌, cond, ltb, List, [], ◌∷◌, Some, None, Option, sym, refl, ap, ◌∙◌, subst, arith}
 use Rattle.std.proofs.lemmas.List.{length-reverse}
 use Rattle.std.specs.Option.{option_map}
-use Rattle.std.specs.List.{AllByRecursion as All}
+use Rattle.std.specs.List.{AllByRecursion}
 use Rattle.rules.specs.Descents.{Path as Way, arriving, within, under_when, under_urgent, descend_as, descend}
 use Rattle.rules.specs.Places.{behaviour}
 use Rattle.rules.specs.Terms.{Term, below}
@@ -61,8 +61,8 @@ descends_is span r (Term.Urgent c a) lower i = refl
 descends_is span r (Term.Call a) lower i = refl
 
 module _ (ws t : List ℕ) (l : Loaded ws t) where
-  pub shape_falls : (r : ℕ) (x : Shape) → x ≡ shape_of (term_at ws r) → All (λ a. depth_at t a < depth_at t r) (below_shape x)
-  shape_falls r x e = subst (All (λ a. depth_at t a < depth_at t r)) (below_is (term_at ws r) ∙ ap below_shape (sym e)) (falls ws t l r)
+  pub shape_falls : (r : ℕ) (x : Shape) → x ≡ shape_of (term_at ws r) → AllByRecursion (λ a. depth_at t a < depth_at t r) (below_shape x)
+  shape_falls r x e = subst (AllByRecursion (λ a. depth_at t a < depth_at t r)) (below_is (term_at ws r) ∙ ap below_shape (sym e)) (falls ws t l r)
 
   pub descended : (r i : ℕ) (x : Shape) (o : Option Path) → x ≡ shape_of (term_at ws r)
       → ((k : ℕ) → depth_at t r ≤ k → found o ≡ descend_by (span_at t) r x (descend (term_at ws) (span_at t) k) i)

@@ -2,7 +2,7 @@
 use Rattle.std.proofs.Common.{◌≡◌, ℕ, zero, suc, ◌+◌, ◌<◌, ◌≤◌, max, true, List, [], ◌∷◌, get_or, sym, refl, ap, ◌∙◌, ⊎_elim, arith}
 use Rattle.std.proofs.lemmas.Bool.{cases_lt, false≢true}
 use Rattle.std.proofs.lemmas.List.{get_or_past}
-use Rattle.std.specs.List.{AllByRecursion as All}
+use Rattle.std.specs.List.{AllByRecursion}
 use Rattle.sheet.specs.declared.step.Below.TheVariants.{Leaf}
 use Rattle.sheet.specs.declared.step.Step.{Step}
 use Rattle.sheet.specs.declared.step.Step.TheVariants.{Stop, Act, Break, Throw, Alt, Seq, Loop, Try, When, Urgent, Call, Link}
@@ -56,9 +56,9 @@ module _ (ws t : List ℕ) (l : Loaded ws t) where
 
   -- the depths below, and the span over them, by a record's step
   abbrev pub Falls : ℕ → Step → Type 0
-  Falls r s = All (λ x. depth x < depth r) (below (term_of ws s))
+  Falls r s = AllByRecursion (λ x. depth x < depth r) (below (term_of ws s))
 
-  one_falls : (r a : ℕ) → get_or t r 0 ≡ size_word (1 + depth a) (span a) → All (λ x. depth x < depth r) (a ∷ [])
+  one_falls : (r a : ℕ) → get_or t r 0 ≡ size_word (1 + depth a) (span a) → AllByRecursion (λ x. depth x < depth r) (a ∷ [])
   one_falls r a e = let d : depth r ≡ 1 + depth a = (over_one r a e).0 in (omega arith, tt)
 
   differ : (s : Step) → is_behaviour s ≡ true → s ≡ Link → ⊥
@@ -80,7 +80,7 @@ module _ (ws t : List ℕ) (l : Loaded ws t) where
   falls_by r (Call q) e = one_falls r (body ws q) (size r (Call q) (inside r (Call q) e (λ p. let z : ◌≡◌ {A = ℕ} 0 1 = cc in omega arith)) e)
   falls_by r Link e = tt
 
-  pub falls : (r : ℕ) → All (λ x. depth x < depth r) (below (term_at ws r))
+  pub falls : (r : ℕ) → AllByRecursion (λ x. depth x < depth r) (below (term_at ws r))
   unfolding term_at
   falls r = falls_by r (step_at ws r) refl
 

@@ -3,7 +3,7 @@ use Rattle.std.proofs.Common.{◌≡◌, ℕ, zero, suc, ◌+◌, ◌-◌, ◌<�
 use Rattle.std.proofs.lemmas.List.{length_push}
 use Rattle.std.proofs.ByRecursion.{All-push}
 use Rattle.std.specs.Option.{option_map}
-use Rattle.std.specs.List.{AllByRecursion as All}
+use Rattle.std.specs.List.{AllByRecursion}
 use Rattle.sheet.specs.declared.step.Step.{Step}
 use Rattle.sheet.specs.declared.step.Step.TheVariants.{Stop, Act, Break, Throw, Alt, Seq, Loop, Try, When, Urgent, Call, Link}
 use Rattle.sheet.specs.Layout.{body}
@@ -51,7 +51,7 @@ module _ (ws : List ℕ) where
   pub record PathRight (p : Path) : Type 0 where
     pub leafed : LeafRight p.leaf
     pub framed : Frames (term_at ws) p.frames
-    pub conditioned : All (λ c. c < 268435456) p.urgents
+    pub conditioned : AllByRecursion (λ c. c < 268435456) p.urgents
 
   -- as long as a depth allows
   abbrev pub Within : ℕ → Path → Type 0

@@ -2,7 +2,7 @@
 --
 -- Says t r ts e: what a derivation at record r rests on when r says t; every derivation can be read so (`inverted`).
 use Rattle.std.proofs.Common.{◌≡◌, ℕ, zero, suc, List, [], ◌∷◌, ◌++◌, map, Some, None, Option, sym, refl, ap, ◌∙◌, subst, inl, inr, arith}
-use Rattle.std.specs.List.{AllByRecursion as All}
+use Rattle.std.specs.List.{AllByRecursion}
 use Rattle.words.specs.Edges.{Edge}
 use Rattle.words.specs.Words.{breaking, failing}
 use Rattle.rules.specs.Exactly.{Exactly}
@@ -90,7 +90,7 @@ module _ (term : ℕ → Term) (urge : ℕ) where
       (λ ts g d. framed_says r a ts g h (inverted d))
       x
 
-  exactly_as : (r : ℕ) (t : Term) (Lower : ℕ → Type 0) (lower : ℕ → List (Option (Edge Place))) → ((s : ℕ) → Lower s → Exactly (D s) (filled (lower s))) → term r ≡ t → All Lower (below t) → Exactly (D r) (filled (slots_of term urge r t lower))
+  exactly_as : (r : ℕ) (t : Term) (Lower : ℕ → Type 0) (lower : ℕ → List (Option (Edge Place))) → ((s : ℕ) → Lower s → Exactly (D s) (filled (lower s))) → term r ≡ t → AllByRecursion Lower (below t) → Exactly (D r) (filled (slots_of term urge r t lower))
   exactly_as r Stop Lower lower ih q h = Builders.none (λ ts e d. says Stop q d)
   exactly_as r (Act a ws) Lower lower ih q h = Builders.one _ (acts r a ws q) (λ ts g d. says (Act a ws) q d)
   exactly_as r Break Lower lower ih q h = Builders.one _ (break q refl) (λ ts g d. says Break q d)

@@ -3,7 +3,7 @@ use Rattle.std.proofs.Common.{◌≡◌, ℕ, zero, suc, ◌+◌, ◌-◌, ◌<�
 use lib.Dec.{eqb-suc-zero}
 use lib.ListN.{length-map}
 use Rattle.std.specs.Option.{option_map}
-use Rattle.std.specs.List.{AllByRecursion as All}
+use Rattle.std.specs.List.{AllByRecursion}
 use Rattle.std.proofs.lemmas.Bool.{cases_lt, lt-ltb, le-ltb, cond-true, cond-false}
 use Rattle.words.specs.Edges.{Edge}
 use Rattle.words.specs.Words.{failing, constant, condition, disjunction}
@@ -119,7 +119,7 @@ module _ (term : ℕ → Term) where
       length-each : (f : Edge Place → Edge Place) (slots : List (Option (Edge Place))) (r : ℕ) → length slots ≡ span r → length (each f slots) ≡ span r + 0
       length-each f slots r q = let w : length (each f slots) ≡ length slots = length-map slots (option_map f) in omega arith
 
-      length_as : (r : ℕ) (t : Term) (Lower : ℕ → Type 0) (lower : ℕ → List (Option (Edge Place))) → ((s : ℕ) → Lower s → length (lower s) ≡ span s) → All Lower (below t) → length (slots_of term urge r t lower) ≡ span_over span (below t)
+      length_as : (r : ℕ) (t : Term) (Lower : ℕ → Type 0) (lower : ℕ → List (Option (Edge Place))) → ((s : ℕ) → Lower s → length (lower s) ≡ span s) → AllByRecursion Lower (below t) → length (slots_of term urge r t lower) ≡ span_over span (below t)
       length_as r Stop Lower lower ih h = refl
       length_as r (Act a ws) Lower lower ih h = refl
       length_as r Break Lower lower ih h = refl
@@ -142,7 +142,7 @@ module _ (term : ℕ → Term) where
       slots_spanned s (suc k) r h =
           length_as r (term r) (Ends term k) (slots_under term urge k) (slots_spanned s k) h ∙ sym (s r)
 
-      found_as : (r : ℕ) (t : Term) (Lower : ℕ → Type 0) (lower : ℕ → List (Option (Edge Place))) (down : ℕ → ℕ → Option Path) → term r ≡ t → ((s : ℕ) → Lower s → length (lower s) ≡ span s) → ((s : ℕ) → Lower s → (i : ℕ) → slot_in (lower s) i ≡ option_map along (down s i)) → All Lower (below t) → (i : ℕ) → slot_in (slots_of term urge r t lower) i ≡ option_map along (descend_as span r t down i)
+      found_as : (r : ℕ) (t : Term) (Lower : ℕ → Type 0) (lower : ℕ → List (Option (Edge Place))) (down : ℕ → ℕ → Option Path) → term r ≡ t → ((s : ℕ) → Lower s → length (lower s) ≡ span s) → ((s : ℕ) → Lower s → (i : ℕ) → slot_in (lower s) i ≡ option_map along (down s i)) → AllByRecursion Lower (below t) → (i : ℕ) → slot_in (slots_of term urge r t lower) i ≡ option_map along (descend_as span r t down i)
       found_as r Stop Lower lower down q long ih h zero = refl
       found_as r Stop Lower lower down q long ih h (suc i) = refl
       found_as r (Act a ws) Lower lower down q long ih h i = leaf r (Act a ws) i q

@@ -4,7 +4,7 @@
 -- Stands term k p: p is a place, from whose record a descent ends within k records.
 -- Each of the other names is a promise.
 use Rattle.std.specs.Prelude.{◌≡◌, ℕ, ◌≤◌, true, List, [], length, ◌≢◌}
-use Rattle.std.specs.List.{AllByRecursion as All}
+use Rattle.std.specs.List.{AllByRecursion}
 use Rattle.words.specs.Edges.{Edge}
 use Rattle.rules.specs.Cuts.{past}
 use Rattle.rules.specs.Descents.{lookup}
@@ -16,7 +16,7 @@ use Rattle.rules.specs.Slots.{edge_at, occupied, Ends, Spans, slot_count}
 use Rattle.rules.specs.Terms.{Term, is_frame}
 
 abbrev pub Frames : (ℕ → Term) → List ℕ → Type 0
-Frames term fs = All (λ f. is_frame (term f) ≡ true) fs
+Frames term fs = AllByRecursion (λ f. is_frame (term f) ≡ true) fs
 
 abbrev pub Stands : (ℕ → Term) → ℕ → Place → Type 0
 Stands term k done = Unit {0}

@@ -6,7 +6,7 @@
 -- Spans term span: span r is 1 if record r does not descend, else the sum of the spans of the records below it.
 -- slot_count span p: how many slots the place p has.
 use Rattle.std.specs.Prelude.{◌≡◌, ℕ, zero, suc, ◌+◌, List, [], ◌∷◌, Some, None, Option}
-use Rattle.std.specs.List.{AllByRecursion as All}
+use Rattle.std.specs.List.{AllByRecursion}
 use Rattle.words.specs.Edges.{Edge}
 use Rattle.rules.specs.Listing.{slots_at}
 use Rattle.rules.specs.Places.{failed, behaviour, Place, done, running}
@@ -30,7 +30,7 @@ occupied at (suc n) = followed_by (at 0) (occupied (λ i. at (suc i)) n)
 
 unfoldable pub Ends : (ℕ → Term) → ℕ → ℕ → Type 0
 Ends term zero r = ⊥
-Ends term (suc k) r = All (Ends term k) (below (term r))
+Ends term (suc k) r = AllByRecursion (Ends term k) (below (term r))
 
 abbrev pub total : (ℕ → ℕ) → List ℕ → ℕ
 total span [] = 0
