@@ -25,10 +25,10 @@ module _ (ws : List ℕ) where
     pub few : length w.assignments ≤ 64
     pub leads : Successor w.successor
 
-  links-right : (m : ℕ) (P : ℕ → Type 0) → ((r : ℕ) → r < records ws → Kind ws m r → P r × Linked ws m (record_at ws r).three)
+  links_right : (m : ℕ) (P : ℕ → Type 0) → ((r : ℕ) → r < records ws → Kind ws m r → P r × Linked ws m (record_at ws r).three)
       → (fuel first : ℕ) → Linked ws m first → AllByRecursion P (links ws fuel first)
-  links-right m P step zero first h = tt
-  links-right m P step (suc fuel) first h = go (first == none) refl h (links-right m P step fuel)
+  links_right m P step zero first h = tt
+  links_right m P step (suc fuel) first h = go (first == none) refl h (links_right m P step fuel)
     where
       go : (b : Bool) → (first == none) ≡ b → Linked ws m first → ((r : ℕ) → Linked ws m r → AllByRecursion P (links ws fuel r))
           → AllByRecursion P (cond b [] (first ∷ links ws fuel (record_at ws first).three))
@@ -36,13 +36,13 @@ module _ (ws : List ℕ) where
       go false e (inl q) rec = absurd (eqb-false first none e q)
       go false e (inr (inside, kind)) rec = let s = step first inside kind in (s.0, rec (record_at ws first).three s.1)
 
-  chain-right : (m : ℕ) (P : ℕ → Type 0) → ((r : ℕ) → r < records ws → Kind ws m r → P r × Linked ws m (record_at ws r).three)
+  chain_right : (m : ℕ) (P : ℕ → Type 0) → ((r : ℕ) → r < records ws → Kind ws m r → P r × Linked ws m (record_at ws r).three)
       → (first : ℕ) → Linked ws m first → AllByRecursion P (chain ws first)
   unfolding chain
-  chain-right m P step first h = links-right m P step (records ws) first h
+  chain_right m P step first h = links_right m P step (records ws) first h
 
-  referred-right : (v : ℕ) → (v ≡ none) ⊎ Kin ws v → Successor (referred v)
-  referred-right v h = go (v == none) refl h
+  referred_right : (v : ℕ) → (v ≡ none) ⊎ Kin ws v → Successor (referred v)
+  referred_right v h = go (v == none) refl h
     where
       go : (b : Bool) → (v == none) ≡ b → (v ≡ none) ⊎ Kin ws v → Successor (cond b None (Some v))
       go true e h = tt
@@ -82,18 +82,18 @@ module _ (ws : List ℕ) where
           record {
             weighs = leb-true 1 (payload_of (record_at ws r).head) w.0;
             few = omega arith;
-            leads = referred-right (record_at ws r).two (maybe_kin ws t l r inside (record_at ws r).two (admitted ws t l r inside 2 2 (omega arith) kind));
+            leads = referred_right (record_at ws r).two (maybe_kin ws t l r inside (record_at ws r).two (admitted ws t l r inside 2 2 (omega arith) kind));
           },
           maybe_linked ws t l r inside 2 (record_at ws r).three (admitted ws t l r inside 2 3 (omega arith) kind),
         )
 
     pub ways_right : (first : ℕ) → Linked ws 2 first → AllByRecursion WayRight (ways_from ws first)
-    ways_right first h = All-map WayRight (way_at ws) (chain ws first) (chain-right 2 (λ r. WayRight (way_at ws r)) way_right first h)
+    ways_right first h = All-map WayRight (way_at ws) (chain ws first) (chain_right 2 (λ r. WayRight (way_at ws r)) way_right first h)
 
     pub clauses_right : (first : ℕ) → Linked ws 10 first → AllByRecursion (λ (c : Clause). Kin ws c.handler) (clauses_from ws first)
     unfolding clause_at
     clauses_right first h =
         All-map (λ (c : Clause). Kin ws c.handler) (clause_at ws) (chain ws first)
-        (chain-right 10 (λ r. Kin ws (record_at ws r).two)
+        (chain_right 10 (λ r. Kin ws (record_at ws r).two)
         (λ r inside kind. (handler_kin ws t l r inside kind, maybe_linked ws t l r inside 10 (record_at ws r).three (admitted ws t l r inside 10 3 (omega arith) kind)))
         first h)

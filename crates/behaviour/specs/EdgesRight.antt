@@ -32,7 +32,7 @@ use Rattle.paths.proofs.RecordsRight.{StepRight, step_right, past_sheet}
 use Rattle.extent.specs.Bounds.{greatest, weight_by, greatest_weight, acts, knows_in}
 use Rattle.extent.proofs.Sweeping.{at_most, known}
 use Rattle.behaviour.specs.ChainsRight.{Successor, WayRight, ways_right}
-use Rattle.behaviour.specs.Standing.{Sound, cut-sound, outcome_sound}
+use Rattle.behaviour.specs.Standing.{Sound, cut_sound, outcome_sound}
 
 -- a deadline with more reasons
 reasons : (left cs : List ℕ) → Term left → AllByRecursion (λ c. c < 268435456) cs → Term (left ++ urging cs)
@@ -87,8 +87,8 @@ module _ (ws t : List ℕ) (l : Loaded ws t) where
   unfolding greatest_weight
   one_below = omega arith
 
-  lone-right : (a : ℕ) (p : Place) → Sound ws t l p → (observable a ≡ true → knows_in ws a ≡ true) → OwnRight a (lone p)
-  lone-right a p s k =
+  lone_right : (a : ℕ) (p : Place) → Sound ws t l p → (observable a ≡ true → knows_in ws a ≡ true) → OwnRight a (lone p)
+  lone_right a p s k =
       record {
         recognised = k;
         branched = lit< tt;
@@ -148,8 +148,8 @@ module _ (ws t : List ℕ) (l : Loaded ws t) where
         branches = b.1;
         weighs = omega arith;
       }
-  step_own r Break e o x = lone-right breaking done tt (λ h. absurd (false≢true h))
-  step_own r (Throw y) e o x = lone-right y failure tt (unseen y x)
+  step_own r Break e o x = lone_right breaking done tt (λ h. absurd (false≢true h))
+  step_own r (Throw y) e o x = lone_right y failure tt (unseen y x)
   step_own r (Alt a b) e o x = absurd o
   step_own r (Seq a b) e o x = absurd o
   step_own r (Loop a) e o x = absurd o
@@ -161,7 +161,7 @@ module _ (ws t : List ℕ) (l : Loaded ws t) where
 
   leaf_own : (h : Head) → LeafRight ws h → OwnRight (leaf_action (term_at ws) h) (leaf_branches (term_at ws) h)
   unfolding term_at
-  leaf_own failed o = lone-right failing failure tt (λ h. absurd (false≢true h))
+  leaf_own failed o = lone_right failing failure tt (λ h. absurd (false≢true h))
   leaf_own (behaviour r) o = step_own r (step_at ws r) refl o (step_right ws t l r)
 
   -- a path with all frames of its place
@@ -204,7 +204,7 @@ module _ (ws t : List ℕ) (l : Loaded ws t) where
       go (Some c) e =
           let u = length-urging p.urgents in
           let f = h.few in
-          let s = cut-sound ws t l (leaf_action (term_at ws) p.leaf) p.frames c h.right.framed e in
+          let s = cut_sound ws t l (leaf_action (term_at ws) p.leaf) p.frames c h.right.framed e in
           let w = one_below in
           record {
             recognised = λ o. absurd (false≢true o);

@@ -140,9 +140,9 @@ module _ (ws t : List ℕ) (l : Loaded ws t) where
       ap (map coded) ((slots_at_lem (place_of code) s).listed (greatest_span ws t) (slots_few (place_of code) s))
       ∙ listed_by_id coded (edge_at (term_at ws) (urge ws) 65 (place_of code)) (ids code) 0 (greatest_span ws t) (λ i. ap (ids code) (zero-add i))
 
-  coded-right : (P : Edge (List ℕ) → Type 0) → ((e : Edge Place) → EdgeRight ws t l e → P (coded e)) → (code : List ℕ) → is_place ws code ≡ true
+  coded_right : (P : Edge (List ℕ) → Type 0) → ((e : Edge Place) → EdgeRight ws t l e → P (coded e)) → (code : List ℕ) → is_place ws code ≡ true
       → AllByRecursion P (map coded (edges_at (term_at ws) (urge ws) 65 (place_of code)))
-  coded-right P holds code h =
+  coded_right P holds code h =
       subst (AllByRecursion P) (sym (edges_by_id code h))
       (all_occupied P (ids code)
       (λ id x e.
@@ -164,11 +164,11 @@ module _ (ws t : List ℕ) (l : Loaded ws t) where
       let n = length-occupied (ids code) 0 (greatest_span ws t) in
       let m = ap length by_id in
       record {
-        edges = coded-right (LawfulEdge (knows_in ws) (is_place ws)) coded_lawful code h;
+        edges = coded_right (LawfulEdge (knows_in ws) (is_place ws)) coded_lawful code h;
         fits = λ told. record {
           code = omega (arith, code_fits ws t l code h);
           count = omega arith;
-          each = coded-right (EdgeFits (ceilings_in ws t)) coded-fits code h;
+          each = coded_right (EdgeFits (ceilings_in ws t)) coded-fits code h;
           ids = by_id ∙ ap (occupied (ids code) 0) (sym less);
           vacant = vacant code h;
         };

@@ -127,9 +127,9 @@ module _ (ws t : List ℕ) (l : Loaded ws t) where
   abbrev CutSound : Cut → Type 0
   CutSound c = Sound c.goes × Frames (term_at ws) c.rest
 
-  pub cut-sound : (a : ℕ) (fs : List ℕ) (c : Cut) → Frames (term_at ws) fs → cut (term_at ws) a fs ≡ Some c → CutSound c
-  cut-sound a [] c h e = absurd (let z : ◌≡◌ {A = ℕ} 0 1 = cc in omega arith)
-  cut-sound a (f ∷ fs) c h e = go (cut_as (role_of (term_at ws f)) a) refl e (cut-sound a fs c h.1)
+  pub cut_sound : (a : ℕ) (fs : List ℕ) (c : Cut) → Frames (term_at ws) fs → cut (term_at ws) a fs ≡ Some c → CutSound c
+  cut_sound a [] c h e = absurd (let z : ◌≡◌ {A = ℕ} 0 1 = cc in omega arith)
+  cut_sound a (f ∷ fs) c h e = go (cut_as (role_of (term_at ws f)) a) refl e (cut_sound a fs c h.1)
     where
       go : (o : Option Place) → cut_as (role_of (term_at ws f)) a ≡ o → cut_or o fs (cut (term_at ws) a fs) ≡ Some c → (cut (term_at ws) a fs ≡ Some c → CutSound c) → CutSound c
       go None q w rec = rec w
@@ -137,9 +137,9 @@ module _ (ws t : List ℕ) (l : Loaded ws t) where
           let s : record { goes = p; rest = fs } ≡ c = cc in
           subst CutSound s (cut_as_sound (role_of (term_at ws f)) a p (role_right f) q, h.1)
 
-  done-sound : (fs : List ℕ) → Frames (term_at ws) fs → Sound (done_under (term_at ws) fs)
-  done-sound [] h = tt
-  done-sound (f ∷ fs) h = go (role_of (term_at ws f)) (role_right f) (done-sound fs h.1)
+  done_sound : (fs : List ℕ) → Frames (term_at ws) fs → Sound (done_under (term_at ws) fs)
+  done_sound [] h = tt
+  done_sound (f ∷ fs) h = go (role_of (term_at ws f)) (role_right f) (done_sound fs h.1)
     where
       go : (o : Role) → RoleRight o → Sound (done_under (term_at ws) fs) → Sound (outcome_by fs (done_under (term_at ws) fs) (done_as o f))
       go (Onward b) r later = (r, h.1)
@@ -148,7 +148,7 @@ module _ (ws t : List ℕ) (l : Loaded ws t) where
       go Unframed r later = later
 
   pub outcome_sound : (fs : List ℕ) (p : Place) → Frames (term_at ws) fs → Sound p → Sound (outcome_under (term_at ws) fs p)
-  outcome_sound fs done h s = done-sound fs h
+  outcome_sound fs done h s = done_sound fs h
   outcome_sound fs (running failed gs) h s = All-append _ gs fs s h
   outcome_sound fs (running (behaviour r) gs) h s = (s.0, All-append _ gs fs s.1 h)
 
