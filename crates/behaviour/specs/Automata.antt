@@ -3,7 +3,7 @@
 use Rattle.std.specs.Prelude.{ℕ, Bool, false, List, [], ◌∷◌, map, ◌==◌}
 use Rattle.std.specs.Option.{option_map}
 use Rattle.words.specs.Edges.{Edge, renamed_by}
-use Rattle.words.specs.Words.{record_word, done as doneWord}
+use Rattle.words.specs.Words.{record_word, done as done_word}
 use Rattle.sheet.specs.Layout.{urge, body}
 use Rattle.rules.specs.Listing.{edges_at}
 use Rattle.rules.specs.Places.{Place, code_of}
@@ -22,7 +22,7 @@ coded e = renamed_by code_of e
 
 abbrev pub is_done_code : List ℕ → Bool
 is_done_code [] = false
-is_done_code (w ∷ frames) = w == doneWord
+is_done_code (w ∷ frames) = w == done_word
 
 abbrev pub automaton_of : List ℕ → List ℕ → Automaton
 automaton_of ws t =

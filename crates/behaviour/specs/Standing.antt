@@ -8,7 +8,7 @@ use Rattle.std.proofs.ByRecursion.{All-append, All-weaker}
 use Rattle.std.proofs.lemmas.List.{length-map}
 use Rattle.std.proofs.lemmas.Bool.{cases_lt, false≢true, eqb-true, ne_eqb, eq-eqb, and_parts, and_from, or_right, lt-ltb, ltb-false, le-leb, leb-true, cond-false}
 use Rattle.std.specs.List.{AllByRecursion}
-use Rattle.words.specs.Words.{kind_of, payload_of, breaking, exception, record_word, frame_word, done as doneWord, failed as failedWord}
+use Rattle.words.specs.Words.{kind_of, payload_of, breaking, exception, record_word, frame_word, done as done_word, failed as failed_word}
 use Rattle.sheet.specs.declared.step.Step.{Step}
 use Rattle.sheet.specs.declared.step.Step.TheVariants.{Stop, Act, Break, Throw, Alt, Seq, Loop, Try, When, Urgent, Call, Link}
 use Rattle.sheet.specs.Layout.{records}
@@ -172,7 +172,7 @@ module _ (ws t : List ℕ) (l : Loaded ws t) where
       let p : payload_of (frame_word f) ≡ f = omega arith in
       and_from _ _ (and_from _ _ (eq-eqb (kind_of (frame_word f)) 10 k) (ap (frame_at ws) p ∙ (sym (frame_at_lem f) ∙ h.0))) (frame_words fs h.1)
 
-  head_word_lem : (h : Head) (fs : List ℕ) → Sound (running h fs) → (head_word h ≢ doneWord) × (is_head_word ws (head_word h) ≡ true) × Frames (term_at ws) fs
+  head_word_lem : (h : Head) (fs : List ℕ) → Sound (running h fs) → (head_word h ≢ done_word) × (is_head_word ws (head_word h) ≡ true) × Frames (term_at ws) fs
   head_word_lem failed fs s = (λ e. omega arith, refl, s)
   head_word_lem (behaviour r) fs s =
       let b = small r s.0 in
@@ -190,7 +190,7 @@ module _ (ws t : List ℕ) (l : Loaded ws t) where
           let w = head_word_lem head fs s in
           let n = length-map fs frame_word in
           let m : length fs ≤ 64 = ltb-false 64 (length fs) e in
-          cond-false (head_word head == doneWord) _ _ (ne_eqb (head_word head) doneWord w.0)
+          cond-false (head_word head == done_word) _ _ (ne_eqb (head_word head) done_word w.0)
           ∙ and_from _ _ w.1 (and_from _ _ (le-leb (length (map frame_word fs)) 64 (omega arith)) (frame_words fs w.2))
 
   pub code_short : (p : Place) → length (code_of p) ≤ 65
@@ -213,7 +213,7 @@ module _ (ws t : List ℕ) (l : Loaded ws t) where
   running_sound w fs h =
       let a = and_parts (is_head_word ws w) (nat_le (length fs) most_frames && are_frame_words ws fs) h in
       let b = and_parts (nat_le (length fs) most_frames) (are_frame_words ws fs) a.1 in
-      go (w == failedWord) a.0 (word_frames fs b.1)
+      go (w == failed_word) a.0 (word_frames fs b.1)
     where
       go : (f : Bool) → (f || (kind_of w == 9 && behaviour_at ws (payload_of w))) ≡ true → Frames (term_at ws) (map payload_of fs) → Sound (running (cond f failed (behaviour (payload_of w))) (map payload_of fs))
       go true q r = r
@@ -221,7 +221,7 @@ module _ (ws t : List ℕ) (l : Loaded ws t) where
 
   pub code_sound : (code : List ℕ) → is_place ws code ≡ true → Sound (place_of code)
   code_sound [] h = absurd (false≢true h)
-  code_sound (w ∷ fs) h = go (w == doneWord) h
+  code_sound (w ∷ fs) h = go (w == done_word) h
     where
       go : (d : Bool) → cond d (length fs == 0) (is_running ws w fs) ≡ true → Sound (cond d done (running (head_of_word w) (map payload_of fs)))
       go true q = tt
@@ -229,7 +229,7 @@ module _ (ws t : List ℕ) (l : Loaded ws t) where
 
   pub code_fits : (code : List ℕ) → is_place ws code ≡ true → length code ≤ 65
   code_fits [] h = omega arith
-  code_fits (w ∷ fs) h = go (w == doneWord) h
+  code_fits (w ∷ fs) h = go (w == done_word) h
     where
       go : (d : Bool) → cond d (length fs == 0) (is_running ws w fs) ≡ true → suc (length fs) ≤ 65
       go true q = let e : length fs ≡ 0 = eqb-true (length fs) 0 q in omega arith

@@ -17,10 +17,10 @@ pub branch_written :
     length v₄ ≡ length v₃ → Marked v₃ place (length b.assignments) v₄ →
     Wrote r₃ v₄ (tail ∷ []) r₄ v₅ → Wrote r₄ v₅ b.outcome r₅ v₆ → Wrote a us (branch_words b) r₅ v₆
 unfolding branch_words
-branch_written b a r₁ r₂ r₃ r₄ r₅ us v₁ v₂ v₃ v₄ v₅ v₆ weight place head tail is_weight is_place_lem is_head is_tail p w₂ w₃ long m w₅ w₆ =
+branch_written b a r₁ r₂ r₃ r₄ r₅ us v₁ v₂ v₃ v₄ v₅ v₆ weight place head tail is_weight place_is is_head is_tail p w₂ w₃ long m w₅ w₆ =
     let whole : (weight ∷ word 0 (length b.assignments) ∷ pair_words b.assignments) ≡ (weight ∷ (head ∷ pair_words b.assignments)) = rw is_head refl in
     let plain = wrote_as a r₃ us v₃ _ _ (sym whole) (wrote_then a r₁ r₃ us v₁ v₃ (weight ∷ []) (head ∷ pair_words b.assignments) p.wrote (wrote_then r₁ r₂ r₃ v₁ v₂ v₃ (head ∷ []) (pair_words b.assignments) w₂ w₃)) in
-    let marked = wrote_marked a r₃ us v₃ v₄ weight b.assignments place long (is_place_lem ∙ p.end) plain m in
+    let marked = wrote_marked a r₃ us v₃ v₄ weight b.assignments place long (place_is ∙ p.end) plain m in
     let all = wrote_then a r₃ r₅ us v₄ v₆ _ _ marked (wrote_then r₃ r₄ r₅ v₄ v₅ v₆ (tail ∷ []) b.outcome w₅ w₆) in
     wrote_as a r₅ us v₆ _ _ (rw (is_weight, is_tail, zero-add (length b.outcome)) refl) all
 

@@ -3,7 +3,7 @@ use Rattle.std.proofs.Common.{◌≡◌, ℕ, ◌-◌, ◌<◌, ◌≤◌, Bool,
 use Rattle.std.proofs.lemmas.List.{take_rest, length-take-le, nil_from_length}
 use Rattle.std.proofs.lemmas.Bool.{cond-false, ne_eqb}
 use Rattle.std.specs.Option.{option_map}
-use Rattle.words.specs.Words.{payload_of, done as doneWord, failed as failedWord}
+use Rattle.words.specs.Words.{payload_of, done as done_word, failed as failed_word}
 use Rattle.rules.specs.Descents.{Path as Way, arriving, within, descend, path_to}
 use Rattle.rules.specs.Places.{failed, behaviour, done, running}
 use Rattle.paths.specs.Paths.{words_of, path_of, found, Descended, from_word}
@@ -32,7 +32,7 @@ extended p s fs h =
 module _ (ws t : List ℕ) where
   pub from_code : (w : ℕ) (fs : List ℕ) (i : ℕ) → option_map (within (map payload_of fs)) (from_word ws t w i) ≡ path_to (term_at ws) (span_at t) 65 (place_of (w ∷ fs)) i
   unfolding path_to
-  from_code w fs i = go (eqb w doneWord) (eqb w failedWord)
+  from_code w fs i = go (eqb w done_word) (eqb w failed_word)
     where
       go : (d f : Bool) → option_map (within (map payload_of fs)) (cond d None (cond f (arriving failed i) (descend (term_at ws) (span_at t) 65 (payload_of w) i)))
           ≡ path_to (term_at ws) (span_at t) 65 (cond d done (running (cond f failed (behaviour (payload_of w))) (map payload_of fs))) i
@@ -55,12 +55,12 @@ module _ (ws t : List ℕ) where
       ap (λ c. path_to (term_at ws) (span_at t) 65 (place_of c) i) (sym empty)
 
   module _ (l : Loaded ws t) where
-    pub by_record : (w i r : ℕ) (o : Option Path) → (w ≡ doneWord → ⊥) → (w ≡ failedWord → ⊥) → r ≡ payload_of w → Descended ws t r i o → found o ≡ from_word ws t w i
+    pub by_record : (w i r : ℕ) (o : Option Path) → (w ≡ done_word → ⊥) → (w ≡ failed_word → ⊥) → r ≡ payload_of w → Descended ws t r i o → found o ≡ from_word ws t w i
     by_record w i r o d f e h =
         let s = shallow ws t l r in
         h 65 (omega arith)
         ∙ (ap (λ x. descend (term_at ws) (span_at t) 65 x i) e
-        ∙ (sym (cond-false (eqb w failedWord) _ _ (ne_eqb w failedWord f)) ∙ sym (cond-false (eqb w doneWord) _ _ (ne_eqb w doneWord d))))
+        ∙ (sym (cond-false (eqb w failed_word) _ _ (ne_eqb w failed_word f)) ∙ sym (cond-false (eqb w done_word) _ _ (ne_eqb w done_word d))))
 
     -- what holds of the paths from a head
     pub record HeadPath (p : Way) : Type 0 where
@@ -68,7 +68,7 @@ module _ (ws t : List ℕ) where
       pub short : Within ws 64 p
 
     pub head_path : (w i : ℕ) (p : Way) → from_word ws t w i ≡ Some p → HeadPath p
-    head_path w i p e = go (eqb w doneWord) (eqb w failedWord) e
+    head_path w i p e = go (eqb w done_word) (eqb w failed_word) e
       where
         go : (d f : Bool) → cond d None (cond f (arriving failed i) (descend (term_at ws) (span_at t) 65 (payload_of w) i)) ≡ Some p → HeadPath p
         go true f q = absurd (let z : ◌≡◌ {A = ℕ} 0 1 = cc in omega arith)

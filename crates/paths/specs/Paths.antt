@@ -3,7 +3,7 @@
 -- Conditions of whens are put innermost first, so that they are read backwards.
 use Rattle.std.specs.Prelude.{◌≡◌, ℕ, ◌<◌, cond, List, reverse, take, Some, None, Option, ◌==◌}
 use Rattle.std.specs.Option.{option_map}
-use Rattle.words.specs.Words.{payload_of, done as doneWord, failed as failedWord}
+use Rattle.words.specs.Words.{payload_of, done as done_word, failed as failed_word}
 use Rattle.rules.specs.Descents.{Path as Way, arriving, descend}
 use Rattle.rules.specs.Places.{Head as Top, failed, behaviour}
 use Rattle.paths.specs.Sheets.{term_at, depth_at, span_at}
@@ -50,8 +50,8 @@ Descended ws t r i o = (k : ℕ) → depth_at t r < k → found o ≡ descend (t
 -- what a descent from the head that a place's first word names finds
 abbrev pub from_word : List ℕ → List ℕ → ℕ → ℕ → Option Way
 from_word ws t word i =
-    cond (word == doneWord) None
-    (cond (word == failedWord) (arriving failed i) (descend (term_at ws) (span_at t) 65 (payload_of word) i))
+    cond (word == done_word) None
+    (cond (word == failed_word) (arriving failed i) (descend (term_at ws) (span_at t) 65 (payload_of word) i))
 
 -- how a term's slots come from those of the records below it
 abbrev pub shape_of : Term → Shape

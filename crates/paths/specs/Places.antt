@@ -3,7 +3,7 @@
 -- behaviour_at: a record of the sheet that is no branch, assignment or catch. frame_at: a seq, a loop or a try.
 -- place_of: the place of a code. is_place: a head, and no frames after done, else at most 64.
 use Rattle.std.specs.Prelude.{ℕ, Bool, true, false, cond, ◌&&◌, ◌||◌, List, [], ◌∷◌, map, length, ◌==◌, nat_le, nat_lt}
-use Rattle.words.specs.Words.{kind_of, payload_of, done as doneWord, failed as failedWord}
+use Rattle.words.specs.Words.{kind_of, payload_of, done as done_word, failed as failed_word}
 use Rattle.sheet.specs.declared.step.Step.{Step}
 use Rattle.sheet.specs.declared.step.Step.TheVariants.{Stop, Act, Break, Throw, Alt, Seq, Loop, Try, When, Urgent, Call, Link}
 use Rattle.sheet.specs.Layout.{records}
@@ -45,7 +45,7 @@ unfoldable pub frame_at : List ℕ → ℕ → Bool
 frame_at ws r = is_frame_step (step_at ws r)
 
 abbrev pub is_head_word : List ℕ → ℕ → Bool
-is_head_word ws w = w == failedWord || (kind_of w == 9 && behaviour_at ws (payload_of w))
+is_head_word ws w = w == failed_word || (kind_of w == 9 && behaviour_at ws (payload_of w))
 
 abbrev pub is_frame_word : List ℕ → ℕ → Bool
 is_frame_word ws w = kind_of w == 10 && frame_at ws (payload_of w)
@@ -60,11 +60,11 @@ is_running ws w frames = is_head_word ws w && (nat_le (length frames) most_frame
 
 abbrev pub is_place : List ℕ → List ℕ → Bool
 is_place ws [] = false
-is_place ws (w ∷ frames) = cond (w == doneWord) (length frames == 0) (is_running ws w frames)
+is_place ws (w ∷ frames) = cond (w == done_word) (length frames == 0) (is_running ws w frames)
 
 abbrev pub head_of_word : ℕ → Head
-head_of_word w = cond (w == failedWord) failed (behaviour (payload_of w))
+head_of_word w = cond (w == failed_word) failed (behaviour (payload_of w))
 
 abbrev pub place_of : List ℕ → Place
 place_of [] = done
-place_of (w ∷ frames) = cond (w == doneWord) done (running (head_of_word w) (map payload_of frames))
+place_of (w ∷ frames) = cond (w == done_word) done (running (head_of_word w) (map payload_of frames))

@@ -9,7 +9,7 @@ use Rattle.lists.specs.Reading.{branches_in, behind_branch, edges_from, behind_e
 use Rattle.listed.specs.Listed.{Missing}
 use Rattle.printout.specs.declared.Unprinted.{Unprinted}
 use Rattle.printout.specs.declared.Unprinted.TheVariants.{LongLine, NoMemory}
-use Rattle.printout.specs.Printouts.{fits as lineFits, Puts}
+use Rattle.printout.specs.Printouts.{fits as line_fits, Puts}
 
 -- what is still to be read by a reader that stands at an item, or at none; on: the item and all that follow
 abbrev pub left : {R X : Type 0} → (R → List X) → Option R → List X
@@ -41,7 +41,7 @@ length_edges (suc n) ws = ap suc (length_edges n (behind_edge ws))
 -- a line that was answered fits, and stands at the front of its buffer
 pub line_stands : (text out out' : List ℕ) (count : ℕ)
     → ◌≡◌ {A = Result ℕ Refusal} (Ok count) (answered (Ok text) (length out)) → out' ≡ out_after (Ok text) out
-    → (lineFits (length out) text ≡ true) × (take count out' ≡ text)
+    → (line_fits (length out) text ≡ true) × (take count out' ≡ text)
 line_stands text out out' count told after = go (leb (length text) (length out)) refl
   where
     go : (b : Bool) → leb (length text) (length out) ≡ b → (leb (length text) (length out) ≡ true) × (take count out' ≡ text)

@@ -1,6 +1,6 @@
 -- The code of a place names it, and is empty only beyond.
 use Rattle.std.proofs.Common.{◌≡◌, ℕ, Bool, true, false, cond, List, [], ◌∷◌, map, length, sym, refl, ap, ap₂, arith}
-use Rattle.words.specs.Words.{done as doneWord, frame_word}
+use Rattle.words.specs.Words.{done as done_word, frame_word}
 use Rattle.rules.specs.Places.{Head, failed, behaviour, done, running, beyond, head_word}
 use Rattle.rules.specs.Promise.{CodesNamePlaces}
 
@@ -10,9 +10,9 @@ same_head failed (behaviour s) q = absurd (omega arith)
 same_head (behaviour r) failed q = absurd (omega arith)
 same_head (behaviour r) (behaviour s) q = ap behaviour (omega arith)
 
-not_done : (h : Head) (ws : List ℕ) → doneWord ∷ [] ≡ head_word h ∷ ws → ⊥
-not_done failed ws q = let z : doneWord ≡ head_word failed = cc in omega arith
-not_done (behaviour r) ws q = let z : doneWord ≡ head_word (behaviour r) = cc in omega arith
+not_done : (h : Head) (ws : List ℕ) → done_word ∷ [] ≡ head_word h ∷ ws → ⊥
+not_done failed ws q = let z : done_word ≡ head_word failed = cc in omega arith
+not_done (behaviour r) ws q = let z : done_word ≡ head_word (behaviour r) = cc in omega arith
 
 same_frames : (fs gs : List ℕ) → map frame_word fs ≡ map frame_word gs → fs ≡ gs
 same_frames [] [] q = refl
@@ -27,7 +27,7 @@ same_frames (f ∷ fs) (g ∷ gs) q =
 abbrev unless : Bool → Head → List ℕ → List ℕ
 unless b h fs = cond b [] (head_word h ∷ map frame_word fs)
 
-done_alone : (b : Bool) (h : Head) (fs : List ℕ) → doneWord ∷ [] ≡ unless b h fs → ⊥
+done_alone : (b : Bool) (h : Head) (fs : List ℕ) → done_word ∷ [] ≡ unless b h fs → ⊥
 done_alone true h fs q = let z : ◌≡◌ {A = ℕ} 0 1 = cc in omega arith
 done_alone false h fs q = not_done h (map frame_word fs) q
 

@@ -1,4 +1,4 @@
-use Rattle.std.proofs.Common.{length, replicate, Ok, Err, vec_items, refl, ap, ◌∙◌, subst}
+use Rattle.std.proofs.Common.{length, Ok, Err, vec_items, refl, ◌∙◌, subst, rules}
 use Rattle.sheet.specs.Layout.{records}
 use Rattle.form.specs.WellFormed.{well_formed}
 use Rattle.descent.specs.Records.{down_in}
@@ -51,7 +51,7 @@ returns-in-Err c =
       loading = record {
         wrong = subst (λ x. verdict x room (Err c.in-Err.fault)) c.deref.ensures.value told.verdict;
         words = refl;
-        table = c.fill.ensures.items (λ y e. e) ∙ ap (λ n. replicate n 0) (c.fill_table.new.table.ok.0 ∙ told.kept);
+        table = search rules;
       };
       single = single_verdict ws room;
     }
