@@ -47,9 +47,9 @@ record_behaviour ws n r h is =
     subst Behaviour (sym (down_inside ws n r h)) (kind_behaviour ws (kind_of (record_at ws r).head) (record_at ws r) is)
 
 module _ (ws : List ℕ) (words_right : record_check ws (Ok tt)) where
-  right-word : (r j : ℕ) → r < records ws → j < 4 → word_right ws r j ≡ true
+  right_word : (r j : ℕ) → r < records ws → j < 4 → word_right ws r j ≡ true
   unfolding record_check
-  right-word r j h k = ⊎_elim (λ e. e) (λ e. absurd (words_right (4 * r + j) (omega arith) (at e))) (cases_Bool (word_right ws r j))
+  right_word r j h k = ⊎_elim (λ e. e) (λ e. absurd (words_right (4 * r + j) (omega arith) (at e))) (cases_Bool (word_right ws r j))
     where
       at : word_right ws r j ≡ false → word_right ws ((4 * r + j) / 4) ((4 * r + j) % 4) ≡ false
       at e =
@@ -61,7 +61,7 @@ module _ (ws : List ℕ) (words_right : record_check ws (Ok tt)) where
     -- what the fields of a record of kind m admit
     admitted : (m j : ℕ) → j < 4 → kind_of (record_at ws r).head ≡ m → admits ws r (field_of (layout_of m) j) (value_of (record_at ws r) j) ≡ true
     unfolding word_right
-    admitted m j k e = subst (λ i. admits ws r (field_of (layout_of i) j) (value_of (record_at ws r) j) ≡ true) e (right-word r j inside k)
+    admitted m j k e = subst (λ i. admits ws r (field_of (layout_of i) j) (value_of (record_at ws r) j) ≡ true) e (right_word r j inside k)
 
     abbrev Lower : ℕ → Type 0
     Lower t = (t < r) × (behaviour_kind (kind_of (record_at ws t).head) ≡ true)

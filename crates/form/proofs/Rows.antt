@@ -10,9 +10,9 @@ module _ (wrong : ℕ → ℕ → Type 0) where
       subst (λ y. wrong ((4 * r + j) / 4) y) m (subst (λ x. wrong x j) q w)
 
   -- of the words before word j of record r, those of the records below and those of r itself
-  before-word : (r j k : ℕ) → j ≤ 4 → k < 4 * r + j
+  before_word : (r j k : ℕ) → j ≤ 4 → k < 4 * r + j
       → Clear (λ k. wrong (k / 4) (k % 4)) (4 * r) → Clear (wrong r) j → wrong (k / 4) (k % 4) → ⊥
-  before-word r j k few h below here w = go (ltb k (4 * r)) refl
+  before_word r j k few h below here w = go (ltb k (4 * r)) refl
     where
       go : (b : Bool) → ltb k (4 * r) ≡ b → ⊥
       go true e = below k (ltb-true k (4 * r) e) w
@@ -23,7 +23,7 @@ module _ (wrong : ℕ → ℕ → Type 0) where
 
   pub rows_more : (r : ℕ) → Clear (λ k. wrong (k / 4) (k % 4)) (4 * r) → Clear (wrong r) 4
       → Clear (λ k. wrong (k / 4) (k % 4)) (4 * (r + 1))
-  rows_more r below here k h w = before-word r 4 k (omega arith) (omega arith) below here w
+  rows_more r below here k h w = before_word r 4 k (omega arith) (omega arith) below here w
 
   pub rows-found : (r n j : ℕ) → r < n → Clear (λ k. wrong (k / 4) (k % 4)) (4 * r) → Lowest (wrong r) 4 j
       → Lowest (λ k. wrong (k / 4) (k % 4)) (4 * n) (4 * r + j)
@@ -32,5 +32,5 @@ module _ (wrong : ℕ → ℕ → Type 0) where
       record {
         inside = omega arith;
         is = at_word r j few low.is;
-        before = λ k k< w. before-word r j k (omega arith) k< below low.before w;
+        before = λ k k< w. before_word r j k (omega arith) k< below low.before w;
       }

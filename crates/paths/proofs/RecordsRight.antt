@@ -82,8 +82,8 @@ module _ (ws : List ℕ) where
   kin_step r h = (and_parts (ltb r (records ws)) (is_behaviour (step_at ws r)) h).1
 
   module _ (t : List ℕ) (l : Loaded ws t) where
-    right-word : (r j : ℕ) → r < records ws → j < 4 → word_right ws r j ≡ true
-    right-word r j h k =
+    right_word : (r j : ℕ) → r < records ws → j < 4 → word_right ws r j ≡ true
+    right_word r j h k =
         let q : (4 * r + j) / 4 ≡ r = omega arith in
         let m : (4 * r + j) % 4 ≡ j = omega arith in
         subst (λ y. word_right ws r y ≡ true) m (subst (λ x. word_right ws x ((4 * r + j) % 4) ≡ true) q (l.worded (4 * r + j) (omega arith)))
@@ -98,7 +98,7 @@ module _ (ws : List ℕ) where
       -- what the fields of a record of kind m admit
       pub admitted : (m j : ℕ) → j < 4 → Kind m r → admits ws r (field_of (layout_of m) j) (value_of (record_at ws r) j) ≡ true
       unfolding word_right
-      admitted m j k e = subst (λ i. admits ws r (field_of (layout_of i) j) (value_of (record_at ws r) j) ≡ true) e (right-word r j inside k)
+      admitted m j k e = subst (λ i. admits ws r (field_of (layout_of i) j) (value_of (record_at ws r) j) ≡ true) e (right_word r j inside k)
 
       referred_kin : (v : ℕ) → (ltb v r && behaviour_kind (kind_of (record_at ws v).head)) ≡ true → Kin v
       referred_kin v h =
