@@ -133,6 +133,8 @@ FUNCTIONS = LIBRARY | {name for path in DEFINING for name in FUNCTION.findall(pa
 
 
 def main():
+    if sys.argv[1:] not in ([], ["--list"]):
+        sys.exit(__doc__)
     names = {name: spelled(name, FUNCTIONS) for name in (DEFINED | bound()) - LIBRARY}
     names = {old: new for old, new in names.items() if old != new}
     if "--list" in sys.argv:
