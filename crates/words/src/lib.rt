@@ -1,7 +1,7 @@
 // Words and refusals: what every other crate of the bench speaks in.
 #![tactic(auto)]
 
-ghost use Rattle.std.specs.Prelude.{◌≡◌, ◌+◌, ◌*◌, ◌/◌, ◌%◌};
+ghost use Rattle.std.specs.Prelude.{◌≡◌, ◌+◌, ◌*◌, ◌/◌, ◌%◌, slice_index};
 ghost use Rattle.words.specs.Checks.{unless};
 ghost use Rattle.words.specs.Refusals.{number_of};
 ghost use Rattle.words.specs.Words.{kind_of, payload_of, observable};
@@ -115,6 +115,13 @@ pub fn expect(right: bool, refusal: Refusal, place: usize) -> Result<(), Fault>
     } else {
         Err(Fault { refusal, place })
     }
+}
+
+/// The word at a position, 0 past the end.
+pub fn word_at(words: &[u32], position: usize) -> u32
+    ensures { result ≡ slice_index words.now position }
+{
+    words.get(position).copied().unwrap_or(0)
 }
 
 /// A word's top four bits, which say what it is.
