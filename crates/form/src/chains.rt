@@ -3,7 +3,7 @@ ghost use Rattle.std.specs.Prelude.{◌≡◌};
 ghost use Rattle.form.specs.Chains.{is_repeat, repeats, is_overlong, overlong, repeat_check, chain_check};
 
 use sheet::{Reader, Survey, kinds};
-use words::{Fault, NONE, Refusal, expect, kind};
+use words::{Fault, NONE, Refusal, expect_each, kind};
 
 const MOST_ASSIGNMENTS: usize = 64;
 
@@ -35,10 +35,12 @@ fn repeats(reader: &Reader<'_>, number: u32) -> bool
 pub(crate) fn check_repeats(reader: &Reader<'_>) -> Result<(), Fault>
     ensures { repeat_check reader.now.words.now result }
 {
-    for number in 0..reader.records() {
-        expect(!repeats(reader, number), Refusal::Repeat, number as usize)?;
-    }
-    Ok(())
+    expect_each(
+        reader.records(),
+        Refusal::Repeat,
+        0,
+        |number| !repeats(reader, number),
+    )
 }
 
 fn overlong(reader: &Reader<'_>, number: u32) -> bool
@@ -54,8 +56,10 @@ fn overlong(reader: &Reader<'_>, number: u32) -> bool
 pub(crate) fn check_chains(reader: &Reader<'_>) -> Result<(), Fault>
     ensures { chain_check reader.now.words.now result }
 {
-    for number in 0..reader.records() {
-        expect(!overlong(reader, number), Refusal::Chain, number as usize)?;
-    }
-    Ok(())
+    expect_each(
+        reader.records(),
+        Refusal::Chain,
+        0,
+        |number| !overlong(reader, number),
+    )
 }

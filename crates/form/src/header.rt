@@ -4,7 +4,7 @@ ghost use Rattle.form.specs.Header.{least, most, header_right, process_right, he
 
 use crate::field::Target;
 use sheet::Reader;
-use words::{Fault, Refusal, expect, kind, payload};
+use words::{Fault, Refusal, expect, expect_each, kind, payload};
 
 const MOST_PROCESSES: u32 = 256;
 
@@ -43,10 +43,7 @@ fn header_right(reader: &Reader<'_>, i: usize) -> bool
 pub(crate) fn check_header(reader: &Reader<'_>) -> Result<(), Fault>
     ensures { header_check reader.now.words.now result }
 {
-    for i in 0..3 {
-        expect(header_right(reader, i), Refusal::Header, i)?;
-    }
-    Ok(())
+    expect_each(3, Refusal::Header, 0, |i| header_right(reader, i as usize))
 }
 
 /// As many words as the header says.
@@ -78,12 +75,10 @@ fn process_right(reader: &Reader<'_>, process: u32) -> bool
 pub(crate) fn check_processes(reader: &Reader<'_>) -> Result<(), Fault>
     ensures { process_check reader.now.words.now result }
 {
-    for process in 0..reader.processes() {
-        expect(
-            process_right(reader, process),
-            Refusal::Process,
-            3 + process as usize,
-        )?;
-    }
-    Ok(())
+    expect_each(
+        reader.processes(),
+        Refusal::Process,
+        3,
+        |process| process_right(reader, process),
+    )
 }

@@ -1,13 +1,10 @@
 // The words of the records of a sheet, each held to what its record's kind allows.
-ghost use Rattle.std.specs.Prelude.{◌≡◌, ◌+◌, false};
-ghost use Rattle.words.specs.Checks.{lowest};
-ghost use Rattle.words.specs.declared.Refusal.TheVariants.{Record as Malformed};
+ghost use Rattle.std.specs.Prelude.{◌≡◌};
 ghost use Rattle.form.specs.Fields.{refers, admits, word_right, record_check};
-ghost use Rattle.sheet.specs.Layout.{position};
 
 use crate::field::{Field, Target, layout_of, value_of};
 use sheet::Reader;
-use words::{Fault, NONE, Refusal, expect, is_observable, kind};
+use words::{Fault, NONE, Refusal, expect_each, is_observable, kind};
 
 const MOST_WEIGHT: u32 = 65_535;
 
@@ -44,23 +41,12 @@ fn word_right(reader: &Reader<'_>, number: u32, j: usize) -> bool
     admits(reader, number, field, value_of(record, j))
 }
 
-/// The lowest word of a record that is wrong.
-fn check_record(reader: &Reader<'_>, number: u32) -> Result<(), Fault>
-    ensures { lowest Malformed (λ j. position reader.now.words.now number + j) 4 (λ j. word_right reader.now.words.now number j ≡ false) result }
-{
-    let start = 3 + reader.processes() as usize + 4 * number as usize;
-    for j in 0..4 {
-        expect(word_right(reader, number, j), Refusal::Record, start + j)?;
-    }
-    Ok(())
-}
-
 /// The lowest word of all records that is wrong.
 pub(crate) fn check_records(reader: &Reader<'_>) -> Result<(), Fault>
     ensures { record_check reader.now.words.now result }
 {
-    for number in 0..reader.records() {
-        check_record(reader, number)?;
-    }
-    Ok(())
+    let first = 3 + reader.processes() as usize;
+    expect_each(4 * reader.records(), Refusal::Record, first, |word| {
+        word_right(reader, word / 4, word as usize % 4)
+    })
 }

@@ -1,8 +1,8 @@
 // Words and refusals: what every other crate of the bench speaks in.
 #![tactic(auto)]
 
-ghost use Rattle.std.specs.Prelude.{◌≡◌, ◌+◌, ◌*◌, ◌/◌, ◌%◌, slice_index};
-ghost use Rattle.words.specs.Checks.{unless};
+ghost use Rattle.std.specs.Prelude.{◌≡◌, ℕ, ◌+◌, ◌*◌, ◌/◌, ◌%◌, ◌^◌, ◌<◌, slice_index};
+ghost use Rattle.words.specs.Checks.{unless, Tested};
 ghost use Rattle.words.specs.Refusals.{number_of};
 ghost use Rattle.words.specs.Words.{kind_of, payload_of, observable};
 
@@ -115,6 +115,23 @@ pub fn expect(right: bool, refusal: Refusal, place: usize) -> Result<(), Fault>
     } else {
         Err(Fault { refusal, place })
     }
+}
+
+/// The fault of the lowest number below a count that does not pass a test; the places begin with the first number's.
+pub fn expect_each<T: Fn(u32) -> bool>(
+    count: u32,
+    refusal: Refusal,
+    first: usize,
+    passes: T,
+) -> Result<(), Fault>
+    requires room { first + count < 2 ^ 64 }
+    requires callable { (i : ℕ) → i < count → T.pre passes i }
+    ensures { Tested (T.post passes) refusal first count result }
+{
+    for i in 0..count {
+        expect(passes(i), refusal, first + i as usize)?;
+    }
+    Ok(())
 }
 
 /// The word at a position, 0 past the end.

@@ -1,24 +1,10 @@
-use Rattle.std.proofs.Common.{sym, ◌∙◌, arith, below_more}
-use borrow.Author.Tests.{both_ways, not-true, not-false}
-use Rattle.std.proofs.lemmas.Result.{err_from_is_err_and}
-use Rattle.form.specs.Chains.{repeat_check}
+use Rattle.std.proofs.Common.{◌≡◌, true, rules, arith}
+use Rattle.words.proofs.Tested.{lowest_from_tested}
+use Rattle.form.specs.Chains.{repeats, repeat_check}
 use Rattle.form.proofs.chains.check_repeats.Goals as goal
-
-pub returns-in_err-expect : goal.returns-in_err-expect
-unfolding repeat_check
-returns-in_err-expect c =
-    let p = err_from_is_err_and c.from_residual.result c.from_residual.ensures.1 in
-    let h = c.in_err-expect.ensures in
-    rw (p.1, p.2) (
-      c.loop-number.number,
-      (record { inside = omega arith; is = sym c.repeats.ensures ∙ not-false _ h.0; before = c.loop-number.invariant }, h.1),
-    )
-
-pub loop-number-preserved : goal.loop-number-preserved
-loop-number-preserved c =
-    below_more _ _ c.loop-number.invariant
-    (λ wrong. both_ways _ (sym c.repeats.ensures ∙ not-true _ c.in_ok-expect.ensures) wrong)
 
 pub returns : goal.returns
 unfolding repeat_check
-returns c = λ k h. c.loop-number.invariant k (omega arith)
+returns c =
+    lowest_from_tested _ _ _ _ _ c.expect_each.ensures (λ r. r) _ (λ r. repeats c.args.reader.now.words.now r ≡ true)
+    (λ k. omega arith) c.records.ensures (λ k h a w. search rules) (λ k h a. search rules)

@@ -1,7 +1,0 @@
-use Rattle.std.proofs.Common.{◌≡◌, true}
-use Rattle.words.specs.Checks.{Clear}
-use Rattle.form.specs.Chains.{overlong}
-use Rattle.form.proofs.chains.check_chains.Given as goal
-
-abbrev pub invariant-loop-number : goal.invariant-loop-number
-invariant-loop-number l = Clear (λ r. overlong l.reader.words.now r ≡ true) l.number
