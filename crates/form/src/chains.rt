@@ -1,34 +1,24 @@
 // What is wrong in chains: a key that comes twice, too many assignments, too much weight.
 ghost use Rattle.std.specs.Prelude.{◌≡◌};
-ghost use Rattle.form.specs.Chains.{is_repeat, repeats, is_overlong, overlong, repeat_check, chain_check};
+ghost use Rattle.form.specs.Chains.{repeats, overlong, repeat_check, chain_check};
 
-use sheet::{Reader, Survey, kinds};
-use words::{Fault, NONE, Refusal, expect_each, kind};
+use sheet::{Kind, Reader};
+use words::{Fault, NONE, Refusal, expect_each};
 
 const MOST_ASSIGNMENTS: usize = 64;
 
 const MOST_TOTAL: u64 = 65_535;
 
-/// Whether, of the chain after a record of a kind, a record has the same key.
-fn is_repeat(kind: u32, further: Survey) -> bool
-    ensures { result ≡ is_repeat kind further }
-{
-    (kind == kinds::ASSIGNMENT || kind == kinds::CATCH) && further.keyed
-}
-
-/// Whether the chain from a record of a kind on is too long or too heavy.
-fn is_overlong(kind: u32, own: Survey) -> bool
-    ensures { result ≡ is_overlong kind own }
-{
-    kind == kinds::ASSIGNMENT && own.length > MOST_ASSIGNMENTS
-        || kind == kinds::BRANCH && own.weight > MOST_TOTAL
-}
-
+/// Whether a record's variable or exception occurs again later in its chain.
+#[tactic(auto, using(sheet::proofs::Numbered::numbered), unfolding(sheet::specs::Kinds::kind_named, crate::specs::Chains::repeats))]
 fn repeats(reader: &Reader<'_>, number: u32) -> bool
     ensures { result ≡ repeats reader.now.words.now number }
 {
     let record = reader.record(number);
-    is_repeat(kind(record.head), reader.survey(record.three, record.key()))
+    match record.kind() {
+        Some(Kind::Assignment | Kind::Catch) => reader.survey(record.three, record.key()).keyed,
+        _ => false,
+    }
 }
 
 /// The lowest record whose variable or exception occurs again later in its chain.
@@ -43,13 +33,16 @@ pub(crate) fn check_repeats(reader: &Reader<'_>) -> Result<(), Fault>
     )
 }
 
+/// Whether the chain from a record on is too long or too heavy.
+#[tactic(auto, using(sheet::proofs::Numbered::numbered), unfolding(sheet::specs::Kinds::kind_named, crate::specs::Chains::overlong))]
 fn overlong(reader: &Reader<'_>, number: u32) -> bool
     ensures { result ≡ overlong reader.now.words.now number }
 {
-    is_overlong(
-        kind(reader.record(number).head),
-        reader.survey(number, NONE),
-    )
+    match reader.record(number).kind() {
+        Some(Kind::Assignment) => reader.survey(number, NONE).length > MOST_ASSIGNMENTS,
+        Some(Kind::Branch) => reader.survey(number, NONE).weight > MOST_TOTAL,
+        _ => false,
+    }
 }
 
 /// The lowest record whose chain has too many assignments or too much weight.

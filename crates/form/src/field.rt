@@ -1,8 +1,10 @@
 // What each word of a record may hold, by the record's kind.
-ghost use Rattle.std.specs.Prelude.{◌≡◌};
+ghost use Rattle.std.specs.Prelude.{◌≡◌, ℕ};
+ghost use Rattle.words.specs.Words.{kind_of};
+ghost use Rattle.sheet.specs.Kinds.{kind_named};
 ghost use Rattle.form.specs.Fields.{belongs, layout_of, field_of, value_of};
 
-use sheet::{Record, kinds};
+use sheet::{Kind, Record};
 use words::payload;
 
 /// A class of records that a reference may name.
@@ -44,17 +46,16 @@ pub(crate) struct Layout {
 
 impl Target {
     /// Whether records of a kind are in the class.
-    pub(crate) fn has(self, kind: u32) -> bool
-        ensures { result ≡ belongs self kind }
+    #[tactic(auto, using(sheet::proofs::Numbered::numbered), unfolding(sheet::specs::Kinds::kind_named))]
+    pub(crate) fn has(self, kind: Option<Kind>) -> bool
+        ensures { (head : ℕ) → kind ≡ kind_named head → result ≡ belongs self (kind_of head) }
     {
-        match self {
-            Target::Behaviour => kind == 0
-                || kind == 1
-                || 4 <= kind && kind <= 9
-                || 11 <= kind && kind <= 13,
-            Target::Branch => kind == kinds::BRANCH,
-            Target::Assignment => kind == kinds::ASSIGNMENT,
-            Target::Catch => kind == kinds::CATCH,
+        match kind {
+            Some(Kind::Branch) => matches!(self, Target::Branch),
+            Some(Kind::Assignment) => matches!(self, Target::Assignment),
+            Some(Kind::Catch) => matches!(self, Target::Catch),
+            Some(_) => matches!(self, Target::Behaviour),
+            None => false,
         }
     }
 }
@@ -73,38 +74,39 @@ fn row(payload: Field, one: Field, two: Field, three: Field) -> Layout
 }
 
 /// The layout of a kind of record.
-pub(crate) fn layout_of(kind: u32) -> Layout
-    ensures { result ≡ layout_of kind }
+#[tactic(auto, using(sheet::proofs::Numbered::numbered), unfolding(sheet::specs::Kinds::kind_named))]
+pub(crate) fn layout_of(kind: Option<Kind>) -> Layout
+    ensures { (head : ℕ) → kind ≡ kind_named head → result ≡ layout_of (kind_of head) }
 {
     let zero = Field::Zero;
     match kind {
-        kinds::STOP | kinds::BREAK => row(zero, zero, zero, zero),
-        kinds::ACT => row(zero, Field::Action, Field::Maybe(Target::Branch), zero),
-        kinds::BRANCH => row(
+        Some(Kind::Stop | Kind::Break) => row(zero, zero, zero, zero),
+        Some(Kind::Act) => row(zero, Field::Action, Field::Maybe(Target::Branch), zero),
+        Some(Kind::Branch) => row(
             Field::Weight,
             Field::Maybe(Target::Assignment),
             Field::Maybe(Target::Behaviour),
             Field::Maybe(Target::Branch),
         ),
-        kinds::ASSIGNMENT => row(
+        Some(Kind::Assignment) => row(
             Field::Number,
             Field::Number,
             zero,
             Field::Maybe(Target::Assignment),
         ),
-        kinds::THROW => row(zero, Field::Exception, zero, zero),
-        kinds::ALT | kinds::SEQ => row(zero, BEHAVIOUR, BEHAVIOUR, zero),
-        kinds::LOOP => row(zero, BEHAVIOUR, zero, zero),
-        kinds::TRY => row(zero, BEHAVIOUR, Field::To(Target::Catch), zero),
-        kinds::CATCH => row(
+        Some(Kind::Throw) => row(zero, Field::Exception, zero, zero),
+        Some(Kind::Alt | Kind::Seq) => row(zero, BEHAVIOUR, BEHAVIOUR, zero),
+        Some(Kind::Loop) => row(zero, BEHAVIOUR, zero, zero),
+        Some(Kind::Try) => row(zero, BEHAVIOUR, Field::To(Target::Catch), zero),
+        Some(Kind::Catch) => row(
             zero,
             Field::Exception,
             BEHAVIOUR,
             Field::Maybe(Target::Catch),
         ),
-        kinds::WHEN | kinds::URGENT => row(zero, Field::Number, BEHAVIOUR, zero),
-        kinds::CALL => row(Field::Process, zero, zero, zero),
-        _ => row(Field::Never, zero, zero, zero),
+        Some(Kind::When | Kind::Urgent) => row(zero, Field::Number, BEHAVIOUR, zero),
+        Some(Kind::Call) => row(Field::Process, zero, zero, zero),
+        None => row(Field::Never, zero, zero, zero),
     }
 }
 

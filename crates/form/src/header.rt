@@ -1,42 +1,44 @@
 // The header and the process words of a sheet, and how many words it has.
-ghost use Rattle.std.specs.Prelude.{◌≡◌, ◌+◌, length};
+ghost use Rattle.std.specs.Prelude.{◌≡◌, ◌+◌, ◌<◌, length};
 ghost use Rattle.form.specs.Header.{least, most, header_right, process_right, header_check, count_check, table_check, process_check};
 
 use crate::field::Target;
 use sheet::Reader;
-use words::{Fault, Refusal, expect, expect_each, kind, payload};
+use words::{Fault, HeaderWord, Refusal, expect, expect_each, kind};
 
 const MOST_PROCESSES: u32 = 256;
 
 const MOST_RECORDS: u32 = 2048;
 
-/// The least payload of a header word.
-fn lower_bound(i: usize) -> u32
-    ensures { result ≡ least i }
-{
-    if i == 2 { 0 } else { 1 }
-}
-
-/// The greatest payload of a header word.
-fn upper_bound(i: usize) -> u32
-    ensures { result ≡ most i }
+/// What each word of the header must be.
+fn header_word(i: usize) -> HeaderWord
+    requires { i < 3 }
+    ensures { result ≡ record { kind = i + 1; least = least i; most = most i } }
 {
     match i {
-        0 => MOST_PROCESSES,
-        1 => MOST_RECORDS,
-        _ => 1,
+        0 => HeaderWord {
+            kind: 1,
+            least: 1,
+            most: MOST_PROCESSES,
+        },
+        1 => HeaderWord {
+            kind: 2,
+            least: 1,
+            most: MOST_RECORDS,
+        },
+        _ => HeaderWord {
+            kind: 3,
+            least: 0,
+            most: 1,
+        },
     }
 }
 
 fn header_right(reader: &Reader<'_>, i: usize) -> bool
+    requires { i < 3 }
     ensures { result ≡ header_right reader.now.words.now i }
 {
-    let word = reader.word(i);
-    let value = payload(word);
-    i < reader.length()
-        && kind(word) as usize == i + 1
-        && lower_bound(i) <= value
-        && value <= upper_bound(i)
+    i < reader.length() && header_word(i).admits(reader.word(i))
 }
 
 /// The lowest header word that is missing or wrong.
@@ -68,7 +70,7 @@ fn process_right(reader: &Reader<'_>, process: u32) -> bool
     let body = reader.body(process);
     kind(reader.word(3 + process as usize)) == 4
         && body < reader.records()
-        && Target::Behaviour.has(kind(reader.record(body).head))
+        && Target::Behaviour.has(reader.record(body).kind())
 }
 
 /// The lowest process word that is wrong.

@@ -4,7 +4,7 @@ ghost use Rattle.form.specs.Fields.{refers, admits, word_right, record_check};
 
 use crate::field::{Field, Target, layout_of, value_of};
 use sheet::Reader;
-use words::{Fault, NONE, Refusal, expect_each, is_observable, kind};
+use words::{Fault, NONE, Refusal, expect_each, is_exception, is_observable, kind};
 
 const MOST_WEIGHT: u32 = 65_535;
 
@@ -12,7 +12,7 @@ const MOST_WEIGHT: u32 = 65_535;
 fn refers(reader: &Reader<'_>, number: u32, target: Target, value: u32) -> bool
     ensures { result ≡ refers reader.now.words.now number target value }
 {
-    value < number && target.has(kind(reader.record(value).head))
+    value < number && target.has(reader.record(value).kind())
 }
 
 /// Whether a field of a record may hold a value.
@@ -26,18 +26,19 @@ fn admits(reader: &Reader<'_>, number: u32, field: Field, value: u32) -> bool
         Field::Weight => 1 <= value && value <= MOST_WEIGHT,
         Field::Process => value < reader.processes(),
         Field::Action => value == 0 || is_observable(value),
-        Field::Exception => kind(value) == 3,
+        Field::Exception => is_exception(value),
         Field::To(target) => refers(reader, number, target, value),
         Field::Maybe(target) => value == NONE || refers(reader, number, target, value),
     }
 }
 
 /// Whether word j of a record is right.
+#[tactic(auto, unfolding(crate::specs::Fields::word_right))]
 fn word_right(reader: &Reader<'_>, number: u32, j: usize) -> bool
     ensures { result ≡ word_right reader.now.words.now number j }
 {
     let record = reader.record(number);
-    let field = layout_of(kind(record.head)).field(j);
+    let field = layout_of(record.kind()).field(j);
     admits(reader, number, field, value_of(record, j))
 }
 

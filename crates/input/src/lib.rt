@@ -26,11 +26,6 @@ pub fn check_bytes(bytes: &[u8]) -> Result<(), Fault>
 pub fn decode(heap: Global, bytes: &[u8]) -> Result<Vec<u32>, AllocError>
     ensures { IfOk result (λ v. v.items ≡ words_of bytes.now) }
 {
-    let mut words = Vec::new(heap);
-    let mut rest = bytes;
-    while let [a, b, c, d, more @ ..] = rest {
-        words.push(u32::from_le_bytes([*a, *b, *c, *d]))?;
-        rest = more;
-    }
-    Ok(words)
+    let (fours, _) = bytes.as_chunks::<4>();
+    fours.iter().map(|four| u32::from_le_bytes(*four)).collect(heap)
 }

@@ -1,2 +1,2 @@
+pub mod Numbered
 mod Linked
-mod Reading

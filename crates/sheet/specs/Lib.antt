@@ -1,3 +1,5 @@
 pub mod Chains
+pub mod Kinds
 pub mod Layout
+pub mod Links
 pub mod Steps

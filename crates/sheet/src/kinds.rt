@@ -1,28 +1,51 @@
-// The kinds of records, as their heads have them.
-pub const STOP: u32 = 0;
+// The kinds of records.
+ghost use Rattle.std.specs.Prelude.{◌≡◌};
+ghost use Rattle.sheet.specs.Kinds.{kind_named};
 
-pub const ACT: u32 = 1;
+use crate::reader::Record;
+use words::kind;
 
-pub const BRANCH: u32 = 2;
+/// What a record is.
+#[derive(Clone, Copy, PartialEq, Eq, Debug)]
+pub enum Kind {
+    Stop,
+    Act,
+    Branch,
+    Assignment,
+    Break,
+    Throw,
+    Alt,
+    Seq,
+    Loop,
+    Try,
+    Catch,
+    When,
+    Urgent,
+    Call,
+}
 
-pub const ASSIGNMENT: u32 = 3;
-
-pub const BREAK: u32 = 4;
-
-pub const THROW: u32 = 5;
-
-pub const ALT: u32 = 6;
-
-pub const SEQ: u32 = 7;
-
-pub const LOOP: u32 = 8;
-
-pub const TRY: u32 = 9;
-
-pub const CATCH: u32 = 10;
-
-pub const WHEN: u32 = 11;
-
-pub const URGENT: u32 = 12;
-
-pub const CALL: u32 = 13;
+impl Record {
+    /// The kind of a record, which its head has; none where no record has such a head.
+    #[tactic(auto, unfolding(crate::specs::Kinds::kind_named))]
+    pub fn kind(self) -> Option<Kind>
+        ensures { result ≡ kind_named self.head }
+    {
+        match kind(self.head) {
+            0 => Some(Kind::Stop),
+            1 => Some(Kind::Act),
+            2 => Some(Kind::Branch),
+            3 => Some(Kind::Assignment),
+            4 => Some(Kind::Break),
+            5 => Some(Kind::Throw),
+            6 => Some(Kind::Alt),
+            7 => Some(Kind::Seq),
+            8 => Some(Kind::Loop),
+            9 => Some(Kind::Try),
+            10 => Some(Kind::Catch),
+            11 => Some(Kind::When),
+            12 => Some(Kind::Urgent),
+            13 => Some(Kind::Call),
+            _ => None,
+        }
+    }
+}

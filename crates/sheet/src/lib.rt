@@ -2,10 +2,11 @@
 #![tactic(auto)]
 
 mod chains;
-pub mod kinds;
+mod kinds;
 mod reader;
 mod step;
 
-pub use chains::Survey;
+pub use chains::{Chain, Survey};
+pub use kinds::Kind;
 pub use reader::{Reader, Record};
 pub use step::{Below, Step};

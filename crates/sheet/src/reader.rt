@@ -2,24 +2,16 @@
 ghost use Rattle.std.specs.Prelude.{◌≡◌, ◌+◌, ◌*◌, length, slice_index};
 ghost use Rattle.sheet.specs.Layout.{processes, records, urge, body, position, four_from, record_at};
 
-use words::payload;
+use words::{payload, word_at};
 
-/// A record of a sheet: its head and three fields.
-#[derive(Clone, Copy)]
+/// A record of a sheet: its head and three fields. One that is not there reads as all 0.
+#[derive(Clone, Copy, PartialEq, Eq, Debug, Default)]
 pub struct Record {
     pub head: u32,
     pub one: u32,
     pub two: u32,
     pub three: u32,
 }
-
-/// What a record that is not there reads as.
-const BLANK: Record = Record {
-    head: 0,
-    one: 0,
-    two: 0,
-    three: 0,
-};
 
 /// A sheet's words and the reader's place in them, the position of the word that it reads next.
 #[derive(Clone, Copy)]
@@ -47,11 +39,7 @@ impl<'a> Reader<'a> {
     pub fn word(&self, position: usize) -> u32
         ensures { result ≡ slice_index self.now.words.now position }
     {
-        if position < self.words.len() {
-            self.words[position]
-        } else {
-            0
-        }
+        word_at(self.words, position)
     }
 
     /// How many processes the header names.
@@ -86,17 +74,14 @@ impl<'a> Reader<'a> {
     fn four(&self) -> Record
         ensures { result ≡ four_from self.now.words.now self.now.at }
     {
-        if self.at > self.words.len() {
-            return BLANK;
-        }
-        let [head, one, two, three, _rest @ ..] = &self.words[self.at..] else {
-            return BLANK;
-        };
-        Record {
-            head: *head,
-            one: *one,
-            two: *two,
-            three: *three,
+        match self.words.get(self.at..) {
+            Some([head, one, two, three, ..]) => Record {
+                head: *head,
+                one: *one,
+                two: *two,
+                three: *three,
+            },
+            _ => Record::default(),
         }
     }
 

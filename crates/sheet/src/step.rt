@@ -2,12 +2,12 @@
 ghost use Rattle.std.specs.Prelude.{◌≡◌};
 ghost use Rattle.sheet.specs.Steps.{step_of, step_at, below_of, below_at};
 
-use crate::kinds;
+use crate::kinds::Kind;
 use crate::reader::{Reader, Record};
-use words::{kind, payload};
+use words::payload;
 
 /// A behaviour by its kind; references name records.
-#[derive(Clone, Copy)]
+#[derive(Clone, Copy, PartialEq, Eq, Debug)]
 pub enum Step {
     Stop,
     /// An action and the first branch, or none.
@@ -31,7 +31,7 @@ pub enum Step {
 }
 
 /// Where a record descends.
-#[derive(Clone, Copy)]
+#[derive(Clone, Copy, PartialEq, Eq, Debug)]
 pub enum Below {
     /// It is no behaviour.
     Absent,
@@ -42,22 +42,23 @@ pub enum Below {
 
 impl Record {
     /// What the record says.
+    #[tactic(auto, using(crate::proofs::Numbered::numbered), unfolding(crate::specs::Kinds::kind_named))]
     pub fn step(self) -> Step
         ensures { result ≡ step_of self }
     {
-        match kind(self.head) {
-            kinds::STOP => Step::Stop,
-            kinds::ACT => Step::Act(self.one, self.two),
-            kinds::BREAK => Step::Break,
-            kinds::THROW => Step::Throw(self.one),
-            kinds::ALT => Step::Alt(self.one, self.two),
-            kinds::SEQ => Step::Seq(self.one, self.two),
-            kinds::LOOP => Step::Loop(self.one),
-            kinds::TRY => Step::Try(self.one, self.two),
-            kinds::WHEN => Step::When(self.one, self.two),
-            kinds::URGENT => Step::Urgent(self.one, self.two),
-            kinds::CALL => Step::Call(payload(self.head)),
-            _ => Step::Link,
+        match self.kind() {
+            Some(Kind::Stop) => Step::Stop,
+            Some(Kind::Act) => Step::Act(self.one, self.two),
+            Some(Kind::Break) => Step::Break,
+            Some(Kind::Throw) => Step::Throw(self.one),
+            Some(Kind::Alt) => Step::Alt(self.one, self.two),
+            Some(Kind::Seq) => Step::Seq(self.one, self.two),
+            Some(Kind::Loop) => Step::Loop(self.one),
+            Some(Kind::Try) => Step::Try(self.one, self.two),
+            Some(Kind::When) => Step::When(self.one, self.two),
+            Some(Kind::Urgent) => Step::Urgent(self.one, self.two),
+            Some(Kind::Call) => Step::Call(payload(self.head)),
+            Some(Kind::Branch | Kind::Assignment | Kind::Catch) | None => Step::Link,
         }
     }
 }

@@ -16,8 +16,7 @@ lowest_from_tested answers refusal first count (Ok u) t place bound wrong at all
 lowest_from_tested answers refusal first count (Err f) t place bound wrong at all right bad =
     let i = t.one.0 in
     let failed : Failed answers count i = t.one.1.0 in
-    let inside : i < bound = omega (arith, failed.inside, all) in
-    (
+    let inside : i < bound = omega (arith, failed.inside, all) in (
       i,
       (
         record {

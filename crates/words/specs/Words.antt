@@ -2,7 +2,7 @@
 --
 -- kind: a word's top four bits, which say what it is; payload: the other 28 bits.
 -- none: the word that stands where a reference is left out.
-use Rattle.std.specs.Prelude.{ℕ, ◌+◌, ◌*◌, ◌/◌, ◌%◌, Bool, ◌||◌, ◌==◌}
+use Rattle.std.specs.Prelude.{ℕ, ◌+◌, ◌*◌, ◌/◌, ◌%◌, Bool, ◌&&◌, ◌||◌, ◌==◌, nat_le}
 
 abbrev pub kind_of : ℕ → ℕ
 kind_of w = w / 268435456
@@ -15,6 +15,10 @@ word kind payload = kind * 268435456 + payload
 
 abbrev pub none : ℕ
 none = 4294967295
+
+-- a word of a header: its kind, and a number that lies within bounds
+abbrev pub header_admits : ℕ → ℕ → ℕ → ℕ → Bool
+header_admits kind least most w = kind_of w == kind && (nat_le least (payload_of w) && nat_le (payload_of w) most)
 
 -- Actions: tau is silent, break leaves a loop, an exception is thrown, error is what an exception
 -- that nobody caught leads to.

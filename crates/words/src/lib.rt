@@ -4,7 +4,7 @@
 ghost use Rattle.std.specs.Prelude.{◌≡◌, ℕ, ◌+◌, ◌*◌, ◌/◌, ◌%◌, ◌^◌, ◌<◌, slice_index};
 ghost use Rattle.words.specs.Checks.{unless, Tested};
 ghost use Rattle.words.specs.Refusals.{number_of};
-ghost use Rattle.words.specs.Words.{kind_of, payload_of, observable};
+ghost use Rattle.words.specs.Words.{kind_of, payload_of, observable, exception, header_admits};
 
 /// The word that stands where a reference is left out.
 pub const NONE: u32 = 0xFFFF_FFFF;
@@ -153,6 +153,36 @@ pub fn payload(word: u32) -> u32
     ensures { result ≡ payload_of word }
 {
     word % PAYLOADS
+}
+
+/// What a word of a header must be: its kind, and the least and the greatest number that it may give.
+#[derive(Clone, Copy, PartialEq, Eq, Debug)]
+pub struct HeaderWord {
+    pub kind: u32,
+    pub least: u32,
+    pub most: u32,
+}
+
+impl HeaderWord {
+    /// Whether a word is right as this word of the header.
+    pub fn admits(self, word: u32) -> bool
+        ensures { result ≡ header_admits self.kind self.least self.most word }
+    {
+        kind(word) == self.kind && self.least <= payload(word) && payload(word) <= self.most
+    }
+}
+
+/// The silent action.
+pub const TAU: u32 = 0;
+
+/// The kind of an exception.
+const EXCEPTION: u32 = 3;
+
+/// Whether a word is an exception.
+pub fn is_exception(action: u32) -> bool
+    ensures { result ≡ exception action }
+{
+    kind(action) == EXCEPTION
 }
 
 /// Whether a word is an action that can be seen from outside: patient or impatient.

@@ -1,10 +1,11 @@
-use Rattle.std.proofs.Common.{[], ◌∷◌, vec_items, refl, arith, ltb-false, ltb-true}
-use Rattle.std.proofs.lemmas.Slice.{pushed}
-use Rattle.input.proofs.Spelling.{word_more}
+use Rattle.std.proofs.Common.{rules, refl}
+use Rattle.std.proofs.lemmas.Iterator.{items_from_collect, YieldsList-from_map, YieldsList-from_slice}
+use Rattle.input.proofs.Spelling.{word_of, words_in_fours}
 use Rattle.input.proofs.decode.Goals as goal
 
-pub loop-rest-preserved : goal.loop-rest-preserved
-loop-rest-preserved c =
-    let w = c.from_le_bytes.result in
-    let put = pushed {was = vec_items c.loop-rest.words} (w ∷ []) refl c.in_ok-push.was c.push.ensures.items in
-    word_more _ _ c.loop-rest.rest.now _ w (omega (arith, ltb-true, ltb-false)) c.from_le_bytes.ensures put c.loop-rest.invariant
+pub returns : goal.returns
+returns c =
+    rw (← words_in_fours _ c.args.bytes.now refl) (
+      items_from_collect _ c.collect.ensures.ran
+      (YieldsList-from_map _ word_of (YieldsList-from_slice _ (cc)) c.map.ensures.closure (λ x r q k. search rules))
+    )

@@ -1,10 +1,10 @@
-use Rattle.sheet.specs.Layout.{records}
 use Rattle.sheet.specs.Chains.{chain}
-use Rattle.sheet.proofs.Linked.{Seen, rest}
+use Rattle.sheet.specs.Links.{links_left}
+use Rattle.sheet.proofs.Linked.{Seen}
 use Rattle.sheet.proofs.reader.Reader.survey.Given as goal
 
-abbrev pub invariant-loop-step : goal.invariant-loop-step
-invariant-loop-step l =
-    Seen l.self.words.now l.key (chain l.self.words.now l.first)
-    (rest l.self.words.now (records l.self.words.now) l._step l.link) l._step l.seen.length
-    l.seen.weight l.seen.keyed
+abbrev pub invariant-loop-number : goal.invariant-loop-number
+invariant-loop-number l =
+    (goal.iterator-loop-number).can_next l.number-iterator
+    × (goal.iterator-loop-number).is_finite l.number-iterator
+    × Seen l.self.words.now l.key (chain l.self.words.now l.first) (links_left l.number-iterator) l.seen
