@@ -1,7 +1,7 @@
 -- Ids and what stands at them: lemmas for makes, and that hopping by `least_occupied` meets exactly what `occupied` lists.
-use Rattle.std.proofs.Common.{◌≡◌, ℕ, zero, suc, ◌+◌, ◌-◌, ◌<◌, ◌≤◌, ◌⊎◌, List, [], ◌∷◌, ◌++◌, length, Some, None, Option, refl, ap, ◌∙◌, subst, inl, inr, add-zero, zero-add, arith}
-use Rattle.std.specs.List.{AllByRecursion}
-use Rattle.part.specs.Ids.{prefixed, occupied, occupied_ids, or_else, least_occupied}
+use Rattle.std.proofs.Common.{◌≡◌, ℕ, zero, suc, ◌+◌, ◌-◌, ◌<◌, ◌≤◌, ◌⊎◌, List, [], ◌∷◌, ◌++◌, length, Some, None, Option, MatchOption, sym, refl, ap, ◌∙◌, subst, inl, inr, add-zero, zero-add, arith}
+use Rattle.std.specs.List.{AllByRecursion, slice_get}
+use Rattle.part.specs.Ids.{prefixed, only_if, occupied, occupied_ids, or_else, least_occupied}
 
 length-prefixed : {X : Type 0} (o : Option X) (xs : List X) (n : ℕ) → length xs ≤ n → length (prefixed o xs) ≤ suc n
 length-prefixed (Some x) xs n h = omega arith
@@ -154,3 +154,29 @@ none_left {X} f from (suc count) e = go (f from) refl (none_left f (suc from) co
 -- no hop left: the list is at its end
 pub end_of_hops : {X : Type 0} (f : ℕ → Option X) (from bound : ℕ) → least_occupied f from (bound - from) ≡ None → (occupied f from (bound - from) ≡ []) × (occupied_ids f from (bound - from) ≡ [])
 end_of_hops f from bound e = none_left f from (bound - from) e
+
+-- there are as many ids as things, and a number's thing stands at the number's id
+length-prefixed_ids : {X : Type 0} (o : Option X) (id : ℕ) (ids : List ℕ) (xs : List X) → length ids ≡ length xs
+    → length (prefixed (only_if o id) ids) ≡ length (prefixed o xs)
+length-prefixed_ids (Some x) id ids xs h = omega arith
+length-prefixed_ids None id ids xs h = h
+
+pub length-ids : {X : Type 0} (f : ℕ → Option X) (from count : ℕ) → length (occupied_ids f from count) ≡ length (occupied f from count)
+length-ids f from zero = refl
+length-ids f from (suc count) = length-prefixed_ids (f from) from _ _ (length-ids f (suc from) count)
+
+pub by_number : {X : Type 0} (f : ℕ → Option X) (from count k : ℕ)
+    → MatchOption (slice_get (occupied_ids f from count) k) (slice_get (occupied f from count) k ≡ None)
+    (λ id. slice_get (occupied f from count) k ≡ f id)
+by_number f from zero k = refl
+by_number {X} f from (suc count) k = go (f from) refl k (by_number f (suc from) count)
+  where
+    go : (o : Option X) → f from ≡ o → (n : ℕ)
+        → ((j : ℕ) → MatchOption (slice_get (occupied_ids f (suc from) count) j) (slice_get (occupied f (suc from) count) j ≡ None)
+        (λ id. slice_get (occupied f (suc from) count) j ≡ f id))
+        → MatchOption (slice_get (prefixed (only_if o from) (occupied_ids f (suc from) count)) n)
+        (slice_get (prefixed o (occupied f (suc from) count)) n ≡ None)
+        (λ id. slice_get (prefixed o (occupied f (suc from) count)) n ≡ f id)
+    go (Some x) is zero later = sym is
+    go (Some x) is (suc j) later = later j
+    go None is n later = later n

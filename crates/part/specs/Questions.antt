@@ -50,6 +50,10 @@ code_word_of M item = unless_oversized M (found NoItem (slice_get M.place item))
 abbrev pub next_of : Meaning → ℕ → Answer (Option ℕ)
 next_of M from = unless_oversized M (Ok (least_occupied (edge_here M) from (ids_of M - from)))
 
+-- the occupied ids at or after one
+abbrev pub ids_from : Meaning → ℕ → List ℕ
+ids_from M from = occupied_ids (edge_here M) from (ids_of M - from)
+
 -- An edge is asked for by its id or by its number in the list of edges.
 abbrev pub edge_by_id : Meaning → ℕ → Answer (Edge (List ℕ))
 edge_by_id M id = unless_oversized M (found NoEdge (edge_here M id))

@@ -10,7 +10,10 @@ ghost use Rattle.part.specs.Questions.{branch_count_of, branch_of, weight_of, as
 
 use words::Refusal;
 
+mod ids;
 pub mod numbered;
+
+pub use ids::{EdgeIds, edge_ids};
 
 /// Bounds over all places of a part; all 0 where they are too large to be told.
 #[derive(Clone, Copy, PartialEq, Eq, Debug)]

@@ -1,25 +1,20 @@
 // Questions about a part's edges by number: an edge's position in the list of edges.
 //
 // They are written once for all parts: the number is turned into an id by going from one occupied id to the next.
+// Kept: a function for each question, since one that takes the question as a closure would make each call longer.
 ghost use Rattle.std.specs.Prelude.{◌≡◌, Err, MatchResult};
 ghost use Rattle.part.specs.Questions.{edge_by_id, edge_by_number, edge_count_of, id_of};
 ghost use Rattle.part.specs.Questions.{action_of, guard_length_of, guard_word_of, deadline_length_of, deadline_word_of};
 ghost use Rattle.part.specs.Questions.{branch_count_of, branch_of, weight_of, assignment_count_of, assignment_of, outcome_length_of, outcome_word_of};
 
-use crate::{Assignment, Part};
+use crate::{Assignment, Part, edge_ids};
 use words::Refusal;
 
 /// How many edges there are where the part stands.
 pub fn edge_count<P: Part>(part: &P) -> Result<usize, Refusal>
     ensures { result ≡ edge_count_of (P.Part.meaning part.now) }
 {
-    let mut count = 0;
-    let mut from = 0;
-    while let Some(id) = part.next(from)? {
-        count += 1;
-        from = id + 1;
-    }
-    Ok(count)
+    Ok(edge_ids(part)?.count())
 }
 
 /// The id of the edge with a number.
@@ -29,16 +24,7 @@ pub fn id<P: Part>(part: &P, number: usize) -> Result<usize, Refusal>
         (λ id. edge_by_number (P.Part.meaning part.now) number ≡ edge_by_id (P.Part.meaning part.now) id)
         (λ e. edge_by_number (P.Part.meaning part.now) number ≡ Err e) }
 {
-    let mut left = number;
-    let mut from = 0;
-    while let Some(id) = part.next(from)? {
-        if left == 0 {
-            return Ok(id);
-        }
-        left -= 1;
-        from = id + 1;
-    }
-    Err(Refusal::NoEdge)
+    edge_ids(part)?.nth(number).ok_or(Refusal::NoEdge)
 }
 
 /// The action of the edge with a number.

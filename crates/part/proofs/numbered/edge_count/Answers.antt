@@ -1,38 +1,28 @@
-use Rattle.std.proofs.Common.{◌≡◌, ◌<◌, length, Ok, sym, ap, ◌∙◌, arith}
+use Rattle.std.proofs.Common.{◌≡◌, ◌-◌, length, Ok, inl, sym, ap, ◌∙◌, arith}
+use Rattle.std.proofs.lemmas.Iterator.Consumers.{count_from_yields_List, YieldsList-from_first}
 use Rattle.part.specs.Automata.{Meaning, edges_here, edge_here, ids_of}
-use Rattle.part.proofs.Hops.{next_hop, next_end, not_oversized, edges_by_ids}
-use Rattle.part.proofs.Occupied.{Hop, length-occupied}
+use Rattle.part.specs.Ids.{occupied}
+use Rattle.part.specs.Questions.{ids_from}
+use Rattle.part.proofs.Hops.{not_oversized, edges_by_ids}
+use Rattle.part.proofs.Occupied.{length-ids, length-occupied}
 use Rattle.part.proofs.numbered.edge_count.Goals as goal
-use Rattle.part.proofs.numbered.edge_count.Given as given
 
-hopped : (g : given.Over) (c : goal.In-Some g) → Hop (edge_here (g.P.Part.meaning c.args.part.now)) c.loop-id.from (ids_of (g.P.Part.meaning c.args.part.now)) c.in-Some.id
-hopped g c =
-    let was = c.in_ok-id.was in
-    (next_hop (g.P.Part.meaning c.args.part.now) c.loop-id.from c.in-Some.id (cc)).1
+as_many : (M : Meaning) → length (ids_from M 0) ≡ length (occupied (edge_here M) 0 (ids_of M))
+as_many M = let all : ids_of M - 0 ≡ ids_of M = omega arith in rw all (length-ids (edge_here M) 0 (ids_of M))
 
-small : (g : given.Over) (c : goal.In-Some g) → ids_of (g.P.Part.meaning c.args.part.now) < 268435455
-small g c =
-    let law = g.met.P.Part.lawful c.args.part.now in
-    omega (arith, law.ceilings.edges)
-
-pub overflow_add-count : goal.overflow_add-count
-overflow_add-count g c =
+pub count-requires-clause-fits : goal.count-requires-clause-fits
+count-requires-clause-fits g c =
     let M : Meaning = g.P.Part.meaning c.args.part.now in
-    omega (arith, small g c, c.loop-id.invariant, length-occupied (edge_here M) 0 (ids_of M))
-
-pub overflow_add-from : goal.overflow_add-from
-overflow_add-from g c = let h = hopped g c in omega (arith, small g c, h.high)
-
-pub loop-id-smaller : goal.loop-id-smaller
-loop-id-smaller g c = let h = hopped g c in omega (arith, h.low, h.high)
-
-pub loop-id-preserved : goal.loop-id-preserved
-loop-id-preserved g c = let h = hopped g c in omega (arith, c.loop-id.invariant, ap length h.things)
+    let law = g.met.P.Part.lawful c.args.part.now in
+    let few = length-occupied (edge_here M) 0 (ids_of M) in
+    inl (omega (arith, law.ceilings.edges, ap length c.in_ok-edge_ids.ensures.ids, as_many M))
 
 pub returns : goal.returns
 returns g c =
     let M : Meaning = g.P.Part.meaning c.args.part.now in
-    let was = c.in_ok-id.was in
-    let e = next_end M c.loop-id.from (cc) in
-    let n : c.loop-id.count ≡ length (edges_here M) = omega (arith, c.loop-id.invariant, ap length e.1.0, ap length (edges_by_ids M (g.met.P.Part.lawful c.args.part.now) e.0)) in
-    ap Ok n ∙ sym (not_oversized M (Ok (length (edges_here M))) e.0)
+    let told = c.in_ok-edge_ids.ensures.told in
+    let n = count_from_yields_List _ _ c.count.ensures.ran
+    (YieldsList-from_first (λ x. x) (λ s. ids_from (g.P.Part.meaning s.part.now) s.from) {s = c.in_ok-edge_ids.field-0} _ c.in_ok-edge_ids.ensures.ids) in
+    let all : c.count.result ≡ length (edges_here M) =
+    n ∙ (as_many M ∙ sym (ap length (edges_by_ids M (g.met.P.Part.lawful c.args.part.now) told))) in
+    ap Ok all ∙ sym (not_oversized M (Ok (length (edges_here M))) told)
