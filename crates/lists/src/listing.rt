@@ -10,7 +10,7 @@ ghost use Rattle.lists.specs.Runs.{AddedIfRoom, AddedLeading};
 
 use crate::writer::put_edge;
 use crate::{Counts, Mark};
-use part::Part;
+use part::{Part, edge_ids};
 use words::Refusal;
 
 /// Why a listing was not accepted.
@@ -62,10 +62,8 @@ fn add_edges<P: Part>(part: &P, mark: &mut Mark, words: &mut [u32]) -> Result<()
     requires room { mark.old.end ≤ length words.old }
     ensures { AddedLeading (edges_here (P.Part.meaning part.now)) mark.old words.old result mark.new words.new }
 {
-    let mut from = 0;
-    while let Some(id) = part.next(from)? {
+    for id in edge_ids(part)? {
         add_edge(part, id, mark, words)?;
-        from = id + 1;
     }
     Ok(())
 }

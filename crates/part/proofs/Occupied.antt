@@ -180,3 +180,29 @@ by_number {X} f from (suc count) k = go (f from) refl k (by_number f (suc from) 
     go (Some x) is zero later = sym is
     go (Some x) is (suc j) later = later j
     go None is n later = later n
+
+-- the things in order are what stands at the ids in order, and something stands at each
+abbrev pub things_at : {X : Type 0} → (ℕ → Option X) → List ℕ → List X
+things_at f [] = []
+things_at f (id ∷ ids) = prefixed (f id) (things_at f ids)
+
+abbrev pub Standing : {X : Type 0} → (ℕ → Option X) → ℕ → Type 0
+Standing {X} f id = (x : X) × (f id ≡ Some x)
+
+pub occupied_at : {X : Type 0} (f : ℕ → Option X) (from count : ℕ) → occupied f from count ≡ things_at f (occupied_ids f from count)
+occupied_at f from zero = refl
+occupied_at {X} f from (suc count) = go (f from) refl (occupied_at f (suc from) count)
+  where
+    go : (o : Option X) → f from ≡ o → occupied f (suc from) count ≡ things_at f (occupied_ids f (suc from) count)
+        → prefixed o (occupied f (suc from) count) ≡ things_at f (prefixed (only_if o from) (occupied_ids f (suc from) count))
+    go (Some x) is later = rw is (ap (λ xs. x ∷ xs) later)
+    go None is later = later
+
+pub all_standing : {X : Type 0} (f : ℕ → Option X) (from count : ℕ) → AllByRecursion (Standing f) (occupied_ids f from count)
+all_standing f from zero = tt
+all_standing {X} f from (suc count) = go (f from) refl (all_standing f (suc from) count)
+  where
+    go : (o : Option X) → f from ≡ o → AllByRecursion (Standing f) (occupied_ids f (suc from) count)
+        → AllByRecursion (Standing f) (prefixed (only_if o from) (occupied_ids f (suc from) count))
+    go (Some x) is later = ((x, is), later)
+    go None is later = later
