@@ -7,7 +7,6 @@ use Rattle.words.specs.declared.Refusal.TheVariants.{NoItem}
 use Rattle.part.specs.Questions.{Answer, found, then, assigning, assignment_count_of, assignment_of}
 use Rattle.part.specs.declared.Assignment.{Assignment}
 use Rattle.lists.specs.Format.{pair_words}
-use Rattle.lists.specs.Rows.{row_length_of, row_word_of}
 
 -- an answer that is no refusal
 pub ok_is : {X : Type 0} (r : Answer X) → is_ok r ≡ true → (x : X) × (r ≡ Ok x)
@@ -27,20 +26,17 @@ take_nth_suc (y ∷ ys) (suc i) x h = ap (λ zs. y ∷ zs) (take_nth_suc ys i x 
 pub take_nth : {X : Type 0} (xs : List X) (i : ℕ) (x : X) → slice_get xs i ≡ Some x → take (i + 1) xs ≡ take i xs ++ (x ∷ [])
 take_nth xs i x h = rw add-one (take_nth_suc xs i x h)
 
--- rows
-module _ (row : Answer (List ℕ)) (ws : List ℕ) (is : row ≡ Ok ws) where
-  pub row-length : (n : ℕ) → row_length_of row ≡ Ok n → n ≡ length ws
-  row-length n h = let h' = rw is at h in cc
+-- one item more of a row
+pub item_more : (ws : List ℕ) (i w : ℕ) → found NoItem (slice_get ws i) ≡ Ok w → take (i + 1) ws ≡ take i ws ++ (w ∷ [])
+item_more ws i w h = take_nth ws i w (there (slice_get ws i) h)
+  where
+    there : (o : Option ℕ) → found NoItem o ≡ Ok w → o ≡ Some w
+    there (Some x) e = cc
+    there None e = absurd (let z : ◌≡◌ {A = ℕ} 0 1 = cc in omega arith)
 
-  pub row_word : (i : ℕ) → i < length ws → is_ok (row_word_of row i) ≡ true
-  row_word i h = let s = nth_some ws i h in rw (is, s.1) refl
-
-  pub row_more : (i w : ℕ) → row_word_of row i ≡ Ok w → take (i + 1) ws ≡ take i ws ++ (w ∷ [])
-  row_more i w h = take_nth ws i w (there (slice_get ws i) (rw is at h))
-    where
-      there : (o : Option ℕ) → found NoItem o ≡ Ok w → o ≡ Some w
-      there (Some x) e = cc
-      there None e = absurd (let z : ◌≡◌ {A = ℕ} 0 1 = cc in omega arith)
+-- an item that is there is no refusal
+pub item_told : (ws : List ℕ) (i : ℕ) (r : Answer ℕ) → i < length ws → r ≡ found NoItem (slice_get ws i) → is_ok r ≡ true
+item_told ws i r h is = let s = nth_some ws i h in rw (is, s.1) refl
 
 -- assignments
 pub pair_words_append : (ps qs : List (ℕ × ℕ)) → pair_words (ps ++ qs) ≡ pair_words ps ++ pair_words qs

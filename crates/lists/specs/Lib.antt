@@ -3,5 +3,4 @@ pub mod Format
 pub mod Listing
 pub mod Reading
 pub mod Records
-pub mod Rows
 pub mod Runs

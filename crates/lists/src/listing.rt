@@ -8,7 +8,7 @@ ghost use Rattle.lists.specs.Reading.{edges_in};
 ghost use Rattle.lists.specs.Records.{most_listed};
 ghost use Rattle.lists.specs.Runs.{AddedIfRoom, AddedLeading};
 
-use crate::writer::put_edge;
+use crate::writer::PartEdge;
 use crate::{Counts, Mark};
 use part::{Part, edge_ids};
 use words::Refusal;
@@ -77,6 +77,6 @@ fn add_edge<P: Part>(part: &P, id: usize, mark: &mut Mark, words: &mut [u32]) ->
         → AddedIfRoom e mark.old words.old result mark.new words.new }
 {
     let mut rec = mark.open();
-    put_edge(part, id, &mut rec, words);
+    PartEdge::new(part, id).put(&mut rec, words);
     rec.close()
 }

@@ -1,11 +1,11 @@
 // Writing one edge of a part into an open record, word by word.
-ghost use Rattle.std.specs.Prelude.{◌≡◌, ℕ, ◌<◌, true, List, is_ok, Ok};
-ghost use Rattle.std.specs.List.{flat_map};
+ghost use Rattle.std.specs.Prelude.{◌≡◌, ℕ, ◌<◌, true, List, length, is_ok, Ok};
+ghost use Rattle.std.specs.List.{flat_map, slice_get};
 ghost use Rattle.words.specs.Edges.{Branch, Edge};
-ghost use Rattle.part.specs.Questions.{edge_by_id, branch_of};
+ghost use Rattle.words.specs.declared.Refusal.TheVariants.{NoItem};
+ghost use Rattle.part.specs.Questions.{Answer, found, edge_by_id, branch_of};
 ghost use Rattle.lists.specs.Format.{pair_words, branch_words, edge_words, payloads};
 ghost use Rattle.lists.specs.Records.{Wrote, Marked};
-ghost use Rattle.lists.specs.Rows.{row_of, row_length_of, row_word_of};
 
 use crate::Open;
 use crate::clash::clash;
@@ -13,57 +13,28 @@ use crate::format::{BRANCHES, CLASH, DEADLINE, GUARD, PLAIN, heading};
 use part::Part;
 use words::Refusal;
 
-/// The rows of words that an edge has.
-#[derive(Clone, Copy)]
-enum Row {
-    Guard,
-    Deadline,
-    /// The code of a branch's outcome.
-    Outcome(usize),
+/// An edge where a part stands, by its id.
+#[derive(Drop)]
+pub(crate) struct PartEdge<'p, P: Part> {
+    part: &'p P,
+    id: usize,
+    ghost stands: { is_ok (edge_by_id (P.Part.meaning part.now) id) ≡ true },
 }
 
-fn row_length<P: Part>(part: &P, id: usize, row: Row) -> Result<usize, Refusal>
-    ensures { result ≡ row_length_of (row_of (edge_by_id (P.Part.meaning part.now) id) row) }
-{
-    match row {
-        Row::Guard => part.guard_length(id),
-        Row::Deadline => part.deadline_length(id),
-        Row::Outcome(branch) => part.outcome_length(id, branch),
-    }
-}
-
-fn row_word<P: Part>(part: &P, id: usize, row: Row, item: usize) -> Result<u32, Refusal>
-    ensures { result ≡ row_word_of (row_of (edge_by_id (P.Part.meaning part.now) id) row) item }
-{
-    match row {
-        Row::Guard => part.guard_word(id, item),
-        Row::Deadline => part.deadline_word(id, item),
-        Row::Outcome(branch) => part.outcome_word(id, branch, item),
-    }
-}
-
-fn put_row<P: Part>(part: &P, id: usize, row: Row, rec: &mut Open<'_>, words: &mut [u32])
-    requires { is_ok (row_of (edge_by_id (P.Part.meaning part.now) id) row) ≡ true }
-    ensures { (ws : List ℕ) → row_of (edge_by_id (P.Part.meaning part.now) id) row ≡ Ok ws
+/// Puts a row of so many words, each as a question tells it.
+fn put_row<Q: Fn(usize) -> Result<u32, Refusal>>(
+    count: usize,
+    word: Q,
+    rec: &mut Open<'_>,
+    words: &mut [u32],
+)
+    requires callable { (i : ℕ) → i < count → Q.pre word i }
+    requires told { (i : ℕ) (r : Answer ℕ) → i < count → Q.post word i r → is_ok r ≡ true }
+    ensures { (ws : List ℕ) → count ≡ length ws → ((i : ℕ) (r : Answer ℕ) → Q.post word i r → r ≡ found NoItem (slice_get ws i))
         → Wrote rec.old words.old ws rec.new words.new }
 {
-    let length = row_length(part, id, row).unwrap();
-    for item in 0..length {
-        let word = row_word(part, id, row, item).unwrap();
-        rec.put(words, word);
-    }
-}
-
-fn put_pairs<P: Part>(part: &P, id: usize, branch: usize, rec: &mut Open<'_>, words: &mut [u32])
-    requires { is_ok (branch_of (edge_by_id (P.Part.meaning part.now) id) branch) ≡ true }
-    ensures { (b : Branch (List ℕ)) → branch_of (edge_by_id (P.Part.meaning part.now) id) branch ≡ Ok b
-        → Wrote rec.old words.old (pair_words b.assignments) rec.new words.new }
-{
-    let count = part.assignment_count(id, branch).unwrap();
     for item in 0..count {
-        let pair = part.assignment(id, branch, item).unwrap();
-        rec.put(words, pair.variable);
-        rec.put(words, pair.expression);
+        rec.put(words, word(item).unwrap());
     }
 }
 
@@ -80,52 +51,77 @@ fn mark_clash(words: &mut [u32], place: usize, count: usize)
     }
 }
 
-fn put_branch<P: Part>(part: &P, id: usize, branch: usize, rec: &mut Open<'_>, words: &mut [u32])
-    requires { is_ok (branch_of (edge_by_id (P.Part.meaning part.now) id) branch) ≡ true }
-    ensures { (b : Branch (List ℕ)) → branch_of (edge_by_id (P.Part.meaning part.now) id) branch ≡ Ok b
-        → Wrote rec.old words.old (branch_words b) rec.new words.new }
-{
-    let weight = part.weight(id, branch).unwrap();
-    rec.put(words, weight);
-    let place = rec.end();
-    let count = part.assignment_count(id, branch).unwrap();
-    rec.put(words, heading(PLAIN, count));
-    put_pairs(part, id, branch, rec, words);
-    mark_clash(words, place, count);
-    let length = part.outcome_length(id, branch).unwrap();
-    rec.put(words, heading(PLAIN, length));
-    put_row(part, id, Row::Outcome(branch), rec, words);
-}
-
-fn put_branches<P: Part>(part: &P, id: usize, rec: &mut Open<'_>, words: &mut [u32])
-    requires { is_ok (edge_by_id (P.Part.meaning part.now) id) ≡ true }
-    ensures { (e : Edge (List ℕ)) → edge_by_id (P.Part.meaning part.now) id ≡ Ok e
-        → Wrote rec.old words.old (flat_map branch_words e.branches) rec.new words.new }
-{
-    let count = part.branch_count(id).unwrap();
-    for branch in 0..count {
-        if rec.is_full() {
-            return;
-        }
-        put_branch(part, id, branch, rec, words);
+impl<'p, P: Part> PartEdge<'p, P> {
+    /// The edge of a part with an id.
+    pub(crate) fn new(part: &'p P, id: usize) -> PartEdge<'p, P>
+        requires { is_ok (edge_by_id (P.Part.meaning part.now) id) ≡ true }
+        ensures { (result.part.now ≡ part.now) × (result.id ≡ id) }
+    {
+        PartEdge { part, id }
     }
-}
 
-/// Puts the words of the edge with an id into a record.
-pub(crate) fn put_edge<P: Part>(part: &P, id: usize, rec: &mut Open<'_>, words: &mut [u32])
-    requires { is_ok (edge_by_id (P.Part.meaning part.now) id) ≡ true }
-    ensures { (e : Edge (List ℕ)) → edge_by_id (P.Part.meaning part.now) id ≡ Ok e
-        → Wrote rec.old words.old (edge_words e) rec.new words.new }
-{
-    let guard = part.guard_length(id).unwrap();
-    rec.put(words, heading(GUARD, guard));
-    let action = part.action(id).unwrap();
-    rec.put(words, action);
-    put_row(part, id, Row::Guard, rec, words);
-    let deadline = part.deadline_length(id).unwrap();
-    rec.put(words, heading(DEADLINE, deadline));
-    put_row(part, id, Row::Deadline, rec, words);
-    let branches = part.branch_count(id).unwrap();
-    rec.put(words, heading(BRANCHES, branches));
-    put_branches(part, id, rec, words);
+    fn put_pairs(&self, branch: usize, rec: &mut Open<'_>, words: &mut [u32])
+        requires { is_ok (branch_of (edge_by_id (P.Part.meaning self.now.part.now) self.now.id) branch) ≡ true }
+        ensures { (b : Branch (List ℕ)) → branch_of (edge_by_id (P.Part.meaning self.now.part.now) self.now.id) branch ≡ Ok b
+            → Wrote rec.old words.old (pair_words b.assignments) rec.new words.new }
+    {
+        let count = self.part.assignment_count(self.id, branch).unwrap();
+        for item in 0..count {
+            let pair = self.part.assignment(self.id, branch, item).unwrap();
+            rec.put(words, pair.variable);
+            rec.put(words, pair.expression);
+        }
+    }
+
+    fn put_branch(&self, branch: usize, rec: &mut Open<'_>, words: &mut [u32])
+        requires { is_ok (branch_of (edge_by_id (P.Part.meaning self.now.part.now) self.now.id) branch) ≡ true }
+        ensures { (b : Branch (List ℕ)) → branch_of (edge_by_id (P.Part.meaning self.now.part.now) self.now.id) branch ≡ Ok b
+            → Wrote rec.old words.old (branch_words b) rec.new words.new }
+    {
+        let part = self.part;
+        let id = self.id;
+        let weight = part.weight(id, branch).unwrap();
+        rec.put(words, weight);
+        let place = rec.end();
+        let count = part.assignment_count(id, branch).unwrap();
+        rec.put(words, heading(PLAIN, count));
+        self.put_pairs(branch, rec, words);
+        mark_clash(words, place, count);
+        let length = part.outcome_length(id, branch).unwrap();
+        rec.put(words, heading(PLAIN, length));
+        put_row(length, |item| part.outcome_word(id, branch, item), rec, words);
+    }
+
+    fn put_branches(&self, rec: &mut Open<'_>, words: &mut [u32])
+        ensures { (e : Edge (List ℕ)) → edge_by_id (P.Part.meaning self.now.part.now) self.now.id ≡ Ok e
+            → Wrote rec.old words.old (flat_map branch_words e.branches) rec.new words.new }
+    {
+        let count = self.part.branch_count(self.id).unwrap();
+        for branch in 0..count {
+            if rec.is_full() {
+                return;
+            }
+            self.put_branch(branch, rec, words);
+        }
+    }
+
+    /// Puts the words of the edge into a record.
+    pub(crate) fn put(&self, rec: &mut Open<'_>, words: &mut [u32])
+        ensures { (e : Edge (List ℕ)) → edge_by_id (P.Part.meaning self.now.part.now) self.now.id ≡ Ok e
+            → Wrote rec.old words.old (edge_words e) rec.new words.new }
+    {
+        let part = self.part;
+        let id = self.id;
+        let guard = part.guard_length(id).unwrap();
+        rec.put(words, heading(GUARD, guard));
+        let action = part.action(id).unwrap();
+        rec.put(words, action);
+        put_row(guard, |item| part.guard_word(id, item), rec, words);
+        let deadline = part.deadline_length(id).unwrap();
+        rec.put(words, heading(DEADLINE, deadline));
+        put_row(deadline, |item| part.deadline_word(id, item), rec, words);
+        let branches = part.branch_count(id).unwrap();
+        rec.put(words, heading(BRANCHES, branches));
+        self.put_branches(rec, words);
+    }
 }

@@ -7,7 +7,7 @@ use Rattle.lists.specs.Format.{branch_words}
 use Rattle.lists.proofs.Answered.{ok_is, nth_some}
 use Rattle.lists.proofs.Branches.{joined_append, joined_nth}
 use Rattle.lists.proofs.Writing.{wrote_then, wrote_as, wrote_full}
-use Rattle.lists.proofs.writer.put_branches.Goals as goal
+use Rattle.lists.proofs.writer.PartEdge.put_branches.Goals as goal
 
 is-count : (edge : Answer (Edge (List ℕ))) (e : Edge (List ℕ)) (n : ℕ) → edge ≡ Ok e → branch_count_of edge ≡ Ok n → n ≡ length e.branches
 is-count edge e n is h = let h' = rw is at h in cc
@@ -25,15 +25,15 @@ returns-then-is_full g c e is =
 
 pub put_branch-requires : goal.put_branch-requires
 put_branch-requires g c =
-    let edge : Answer (Edge (List ℕ)) = edge_by_id (g.P.Part.meaning c.args.part.now) c.args.id in
-    let is = ok_is edge c.requires in
+    let edge : Answer (Edge (List ℕ)) = edge_by_id (g.P.Part.meaning c.args.self.now.part.now) c.args.self.now.id in
+    let is = ok_is edge c.args.self.now.stands in
     let n = is-count edge is.0 c.unwrap-count.result is.1 (sym c.branch_count.ensures ∙ c.unwrap-count.ensures) in
     let there = nth_some is.0.branches c.loop-branch.branch (omega (arith, n)) in
     ap is_ok (is-branch edge is.0 c.loop-branch.branch there.0 is.1 there.1)
 
 pub loop-branch-preserved : goal.loop-branch-preserved
 loop-branch-preserved g c e is =
-    let edge : Answer (Edge (List ℕ)) = edge_by_id (g.P.Part.meaning c.args.part.now) c.args.id in
+    let edge : Answer (Edge (List ℕ)) = edge_by_id (g.P.Part.meaning c.args.self.now.part.now) c.args.self.now.id in
     let n = is-count edge e c.unwrap-count.result is (sym c.branch_count.ensures ∙ c.unwrap-count.ensures) in
     let there = nth_some e.branches c.loop-branch.branch (omega (arith, n)) in
     wrote_as _ _ _ _ _ _ (sym (joined_nth branch_words e.branches c.loop-branch.branch there.0 there.1))
@@ -41,6 +41,6 @@ loop-branch-preserved g c e is =
 
 pub returns : goal.returns
 returns g c e is =
-    let edge : Answer (Edge (List ℕ)) = edge_by_id (g.P.Part.meaning c.args.part.now) c.args.id in
+    let edge : Answer (Edge (List ℕ)) = edge_by_id (g.P.Part.meaning c.args.self.now.part.now) c.args.self.now.id in
     let n = is-count edge e c.unwrap-count.result is (sym c.branch_count.ensures ∙ c.unwrap-count.ensures) in
     wrote_as _ _ _ _ _ _ (ap (flat_map branch_words) (take_all c.loop-branch.branch e.branches (omega (arith, n)))) (c.loop-branch.invariant e is)

@@ -5,11 +5,11 @@ use Rattle.part.specs.Questions.{Answer, edge_by_id, branch_of}
 use Rattle.lists.specs.Format.{pair_words}
 use Rattle.lists.proofs.Answered.{ok_is, pair_count, pair_there, pairs_more}
 use Rattle.lists.proofs.Writing.{wrote_then, wrote_as}
-use Rattle.lists.proofs.writer.put_pairs.Goals as goal
+use Rattle.lists.proofs.writer.PartEdge.put_pairs.Goals as goal
 
 pub unwrap-pair-requires : goal.unwrap-pair-requires
 unwrap-pair-requires g c =
-    let branch : Answer (Branch (List ℕ)) = branch_of (edge_by_id (g.P.Part.meaning c.args.part.now) c.args.id) c.args.branch in
+    let branch : Answer (Branch (List ℕ)) = branch_of (edge_by_id (g.P.Part.meaning c.args.self.now.part.now) c.args.self.now.id) c.args.branch in
     let is = ok_is branch c.requires in
     let n = pair_count branch is.0 is.1 c.unwrap-count.result (sym c.assignment_count.ensures ∙ c.unwrap-count.ensures) in
     rw c.assignment.ensures (pair_there branch is.0 is.1 c.loop-item.item (omega (arith, n)))
