@@ -1,5 +1,6 @@
 pub mod Endings
 pub mod Format
+pub mod Headings
 pub mod Listing
 pub mod Reading
 pub mod Records

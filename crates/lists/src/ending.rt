@@ -2,7 +2,7 @@
 ghost use Rattle.std.specs.Prelude.{◌≡◌, ◌<◌, length, MatchOption};
 ghost use Rattle.lists.specs.Endings.{zeroed_from, ended, counts_of, Begun};
 
-use crate::format::{LIST, heading};
+use crate::format::Heading;
 use crate::{Counts, Mark};
 
 impl Mark {
@@ -23,7 +23,7 @@ impl Mark {
     {
         zero_from(words, self.end);
         if !words.is_empty() {
-            words[0] = heading(LIST, self.count);
+            words[0] = Heading::List.of(self.count);
         }
         Counts {
             edges: self.count,

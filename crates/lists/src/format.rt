@@ -1,29 +1,35 @@
-// The headings of a list's words: a kind, and a number in the payload.
-ghost use Rattle.std.specs.Prelude.{◌≡◌, ◌+◌, ◌*◌, ◌<◌};
+// The headings of a list's words: what they give a number of, and the number.
+ghost use Rattle.std.specs.Prelude.{◌≡◌, ◌<◌};
 ghost use Rattle.words.specs.Words.{word};
 ghost use Rattle.lists.specs.Format.{payloads};
+ghost use Rattle.lists.specs.Headings.{kind_number};
 
-/// Kinds of headings.
-pub(crate) const LIST: u32 = 12;
-
-pub(crate) const GUARD: u32 = 13;
-
-pub(crate) const DEADLINE: u32 = 14;
-
-pub(crate) const BRANCHES: u32 = 15;
-
-/// Kinds of counts: plain, and of assignments that clash.
-pub(crate) const PLAIN: u32 = 0;
-
-pub(crate) const CLASH: u32 = 1;
+/// What a heading gives the number of, by the kind of its word.
+#[derive(Clone, Copy, PartialEq, Eq, Debug)]
+pub(crate) enum Heading {
+    /// Assignments that do not clash, or the words of a place's code.
+    Plain = 0,
+    /// Assignments that clash.
+    Clash = 1,
+    /// The edges of a list.
+    List = 12,
+    /// The conditions of a guard.
+    Guard = 13,
+    /// The words of a deadline.
+    Deadline = 14,
+    /// The branches of an edge.
+    Branches = 15,
+}
 
 /// A payload is below this number.
 const PAYLOADS: u32 = 0x1000_0000;
 
-/// A word of a kind with a number as its payload.
-pub(crate) fn heading(kind: u32, number: usize) -> u32
-    requires { (kind < 16) × (number < payloads) }
-    ensures { result ≡ word kind number }
-{
-    kind * PAYLOADS + number as u32
+impl Heading {
+    /// The word that gives a number.
+    pub(crate) fn of(self, number: usize) -> u32
+        requires { number < payloads }
+        ensures { result ≡ word (kind_number self) number }
+    {
+        self as u32 * PAYLOADS + number as u32
+    }
 }

@@ -9,7 +9,7 @@ ghost use Rattle.lists.specs.Records.{Wrote, Marked};
 
 use crate::Open;
 use crate::clash::clash;
-use crate::format::{BRANCHES, CLASH, DEADLINE, GUARD, PLAIN, heading};
+use crate::format::Heading;
 use part::Part;
 use words::Refusal;
 
@@ -47,7 +47,7 @@ fn mark_clash(words: &mut [u32], place: usize, count: usize)
         && 2 * count < words.len() - place
         && clash(&words[place + 1..place + 1 + 2 * count])
     {
-        words[place] = heading(CLASH, count);
+        words[place] = Heading::Clash.of(count);
     }
 }
 
@@ -84,12 +84,17 @@ impl<'p, P: Part> PartEdge<'p, P> {
         rec.put(words, weight);
         let place = rec.end();
         let count = part.assignment_count(id, branch).unwrap();
-        rec.put(words, heading(PLAIN, count));
+        rec.put(words, Heading::Plain.of(count));
         self.put_pairs(branch, rec, words);
         mark_clash(words, place, count);
         let length = part.outcome_length(id, branch).unwrap();
-        rec.put(words, heading(PLAIN, length));
-        put_row(length, |item| part.outcome_word(id, branch, item), rec, words);
+        rec.put(words, Heading::Plain.of(length));
+        put_row(
+            length,
+            |item| part.outcome_word(id, branch, item),
+            rec,
+            words,
+        );
     }
 
     fn put_branches(&self, rec: &mut Open<'_>, words: &mut [u32])
@@ -113,15 +118,15 @@ impl<'p, P: Part> PartEdge<'p, P> {
         let part = self.part;
         let id = self.id;
         let guard = part.guard_length(id).unwrap();
-        rec.put(words, heading(GUARD, guard));
+        rec.put(words, Heading::Guard.of(guard));
         let action = part.action(id).unwrap();
         rec.put(words, action);
         put_row(guard, |item| part.guard_word(id, item), rec, words);
         let deadline = part.deadline_length(id).unwrap();
-        rec.put(words, heading(DEADLINE, deadline));
+        rec.put(words, Heading::Deadline.of(deadline));
         put_row(deadline, |item| part.deadline_word(id, item), rec, words);
         let branches = part.branch_count(id).unwrap();
-        rec.put(words, heading(BRANCHES, branches));
+        rec.put(words, Heading::Branches.of(branches));
         self.put_branches(rec, words);
     }
 }

@@ -16,53 +16,53 @@ const PAYLOADS: u32 = 0x1000_0000;
 #[derive(Clone, Copy, PartialEq, Eq, Debug)]
 pub enum Refusal {
     /// The bytes are not in fours, or too many.
-    Bytes,
+    Bytes = 10,
     /// A header word is missing or wrong.
-    Header,
+    Header = 11,
     /// The sheet has not as many words as its header says.
-    Count,
+    Count = 12,
     /// The work table has not one word for each record.
-    Table,
+    Table = 13,
     /// A process word is wrong.
-    Process,
+    Process = 14,
     /// A record's word is wrong.
-    Record,
+    Record = 15,
     /// A variable or an exception repeats later in its chain.
-    Repeat,
+    Repeat = 16,
     /// A chain has too many assignments or too much weight.
-    Chain,
+    Chain = 17,
     /// A process descends to itself.
-    Recursion,
+    Recursion = 18,
     /// A behaviour is too deep.
-    Depth,
+    Depth = 19,
     /// A behaviour has too many alternatives.
-    Span,
+    Span = 20,
     /// A header word of a drawing is missing or wrong.
-    DrawingHeader,
+    DrawingHeader = 31,
     /// The drawing has not as many words as its header says.
-    DrawingCount,
+    DrawingCount = 32,
     /// A word of a drawing's alphabet is wrong.
-    DrawingAlphabet,
+    DrawingAlphabet = 33,
     /// A word of a drawing's row is wrong.
-    DrawingRow,
+    DrawingRow = 34,
     /// A pair to rename, or an action to add, is of a wrong kind.
-    WrongKind,
+    WrongKind = 41,
     /// The renaming has a pair for this source.
-    SourcePresent,
+    SourcePresent = 42,
     /// The layer's table is full.
-    TableFull,
+    TableFull = 43,
     /// A part's ceilings are too large to be told.
-    Oversized,
+    Oversized = 61,
     /// There is no such edge.
-    NoEdge,
+    NoEdge = 62,
     /// The edge has no such branch.
-    NoBranch,
+    NoBranch = 63,
     /// There is no such item.
-    NoItem,
+    NoItem = 64,
     /// The list does not fit its buffer.
-    ListTooLong,
+    ListTooLong = 71,
     /// The line does not fit its buffer.
-    LineTooLong,
+    LineTooLong = 72,
 }
 
 impl Refusal {
@@ -70,32 +70,7 @@ impl Refusal {
     pub fn number(self) -> u32
         ensures { result ≡ number_of self }
     {
-        match self {
-            Refusal::Bytes => 10,
-            Refusal::Header => 11,
-            Refusal::Count => 12,
-            Refusal::Table => 13,
-            Refusal::Process => 14,
-            Refusal::Record => 15,
-            Refusal::Repeat => 16,
-            Refusal::Chain => 17,
-            Refusal::Recursion => 18,
-            Refusal::Depth => 19,
-            Refusal::Span => 20,
-            Refusal::DrawingHeader => 31,
-            Refusal::DrawingCount => 32,
-            Refusal::DrawingAlphabet => 33,
-            Refusal::DrawingRow => 34,
-            Refusal::WrongKind => 41,
-            Refusal::SourcePresent => 42,
-            Refusal::TableFull => 43,
-            Refusal::Oversized => 61,
-            Refusal::NoEdge => 62,
-            Refusal::NoBranch => 63,
-            Refusal::NoItem => 64,
-            Refusal::ListTooLong => 71,
-            Refusal::LineTooLong => 72,
-        }
+        self as u32
     }
 }
 

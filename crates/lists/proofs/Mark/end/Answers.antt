@@ -28,7 +28,7 @@ returns-then-not-is_empty c =
     let some : length ws ≡ 0 → ⊥ = λ e. eqb-false _ _ (sym c.if-not-is_empty.ensures) (ap length c.zero_from.ensures ∙ (length-zeroed _ ws ∙ e)) in
     record {
       counts = refl;
-      list = rw (c.zero_from.ensures, c.heading.ensures) (ended-first c.args.self c.args.self.end ws refl some);
+      list = rw (c.zero_from.ensures, c.of.ensures) (ended-first c.args.self c.args.self.end ws refl some);
     }
 
 pub returns-else-not-is_empty : goal.returns-else-not-is_empty

@@ -7,11 +7,11 @@ use Rattle.lists.proofs.writer.mark_clash.Goals.{else-place-words-via-then-place
 
 pub returns-then-clash : goal.returns-then-clash
 returns-then-clash c = record {
-  kept = take-set-le c.args.place c.args.words.now c.args.place c.heading.result (omega arith);
+  kept = take-set-le c.args.place c.args.words.now c.args.place c.of.result (omega arith);
   marks = λ ps before after long counted is.
       let slice = pairs_slice c.args.words.now c.args.place c.args.count _ ps before after long counted is in
       let clashes = sym (c.clash.ensures ps slice) ∙ c.if-clash.true in
-      let v = c.heading.ensures ∙ count_marked ps c.args.count counted clashes in
+      let v = c.of.ensures ∙ count_marked ps c.args.count counted clashes in
       rw v (pairs_marked c.args.words.now c.args.place c.args.count _ ps before after long counted is (count_word ps));
 }
 

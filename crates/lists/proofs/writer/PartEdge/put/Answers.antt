@@ -1,4 +1,4 @@
-use Rattle.std.proofs.Common.{◌≡◌, ℕ, List, length, Ok, sym, refl, ap, ◌∙◌, lit<, rules, arith}
+use Rattle.std.proofs.Common.{◌≡◌, ℕ, List, length, Ok, sym, refl, ap, ◌∙◌, rules, arith}
 use Rattle.std.specs.List.{slice_get}
 use Rattle.words.specs.Edges.{Edge}
 use Rattle.words.specs.declared.Refusal.TheVariants.{NoItem}
@@ -30,23 +30,23 @@ module _ (edge : Answer (Edge (List ℕ))) (e : Edge (List ℕ)) (is : edge ≡ 
   deadline_item : (i : ℕ) (r : Answer ℕ) → r ≡ deadline_word_of edge i → r ≡ found NoItem (slice_get e.deadline i)
   deadline_item i r h = h ∙ (rw is refl)
 
-pub heading-requires : goal.heading-requires
-heading-requires g c =
+pub of-requires : goal.of-requires
+of-requires g c =
     let M : Meaning = g.P.Part.meaning c.args.self.now.part.now in
     let is = ok_is (edge_by_id M c.args.self.now.id) c.args.self.now.stands in
-    (lit< tt, guard_small M (g.met.P.Part.lawful c.args.self.now.part.now) c.args.self.now.id c.unwrap-guard.result is.0 is.1 (sym c.guard_length.ensures ∙ c.unwrap-guard.ensures))
+    guard_small M (g.met.P.Part.lawful c.args.self.now.part.now) c.args.self.now.id c.unwrap-guard.result is.0 is.1 (sym c.guard_length.ensures ∙ c.unwrap-guard.ensures)
 
-pub heading-requires-2 : goal.heading-requires-2
-heading-requires-2 g c =
+pub of-requires-2 : goal.of-requires-2
+of-requires-2 g c =
     let M : Meaning = g.P.Part.meaning c.args.self.now.part.now in
     let is = ok_is (edge_by_id M c.args.self.now.id) c.args.self.now.stands in
-    (lit< tt, deadline_small M (g.met.P.Part.lawful c.args.self.now.part.now) c.args.self.now.id c.unwrap-deadline.result is.0 is.1 (sym c.deadline_length.ensures ∙ c.unwrap-deadline.ensures))
+    deadline_small M (g.met.P.Part.lawful c.args.self.now.part.now) c.args.self.now.id c.unwrap-deadline.result is.0 is.1 (sym c.deadline_length.ensures ∙ c.unwrap-deadline.ensures)
 
-pub heading-requires-3 : goal.heading-requires-3
-heading-requires-3 g c =
+pub of-requires-3 : goal.of-requires-3
+of-requires-3 g c =
     let M : Meaning = g.P.Part.meaning c.args.self.now.part.now in
     let is = ok_is (edge_by_id M c.args.self.now.id) c.args.self.now.stands in
-    (lit< tt, branches_small M (g.met.P.Part.lawful c.args.self.now.part.now) c.args.self.now.id c.unwrap-branches.result is.0 is.1 (sym c.branch_count.ensures ∙ c.unwrap-branches.ensures))
+    branches_small M (g.met.P.Part.lawful c.args.self.now.part.now) c.args.self.now.id c.unwrap-branches.result is.0 is.1 (sym c.branch_count.ensures ∙ c.unwrap-branches.ensures)
 
 pub put_row-requires-clause-told : goal.put_row-requires-clause-told
 put_row-requires-clause-told g c i r h p =
@@ -67,11 +67,11 @@ returns g c e is =
     let edge : Answer (Edge (List ℕ)) = edge_by_id (g.P.Part.meaning c.args.self.now.part.now) c.args.self.now.id in
     edge_written e c.args.rec.now c.put.new.self c.put-2.new.self c.put_row.new.rec c.put-3.new.self c.put_row-2.new.rec c.put-4.new.self c.put_branches.new.rec
     c.args.words.now c.put.new.words c.put-2.new.words c.put_row.new.words c.put-3.new.words c.put_row-2.new.words c.put-4.new.words c.put_branches.new.words
-    c.heading.result c.unwrap-action.result c.heading-2.result c.heading-3.result
-    (c.heading.ensures ∙ ap (word 13) (is_guard edge e is c.unwrap-guard.result (sym c.guard_length.ensures ∙ c.unwrap-guard.ensures)))
+    c.of.result c.unwrap-action.result c.of-2.result c.of-3.result
+    (c.of.ensures ∙ ap (word 13) (is_guard edge e is c.unwrap-guard.result (sym c.guard_length.ensures ∙ c.unwrap-guard.ensures)))
     (is_action edge e is c.unwrap-action.result (sym c.action.ensures ∙ c.unwrap-action.ensures))
-    (c.heading-2.ensures ∙ ap (word 14) (is_deadline edge e is c.unwrap-deadline.result (sym c.deadline_length.ensures ∙ c.unwrap-deadline.ensures)))
-    (c.heading-3.ensures ∙ ap (word 15) (is-count edge e is c.unwrap-branches.result (sym c.branch_count.ensures ∙ c.unwrap-branches.ensures)))
+    (c.of-2.ensures ∙ ap (word 14) (is_deadline edge e is c.unwrap-deadline.result (sym c.deadline_length.ensures ∙ c.unwrap-deadline.ensures)))
+    (c.of-3.ensures ∙ ap (word 15) (is-count edge e is c.unwrap-branches.result (sym c.branch_count.ensures ∙ c.unwrap-branches.ensures)))
     c.put.ensures.wrote c.put-2.ensures.wrote (c.put_row.ensures e.guard (is_guard edge e is c.unwrap-guard.result (sym c.guard_length.ensures ∙ c.unwrap-guard.ensures))
     (λ i r p. guard_item edge e is i r (search rules)))
     c.put-3.ensures.wrote (c.put_row-2.ensures e.deadline (is_deadline edge e is c.unwrap-deadline.result (sym c.deadline_length.ensures ∙ c.unwrap-deadline.ensures))

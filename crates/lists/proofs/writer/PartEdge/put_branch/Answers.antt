@@ -1,4 +1,4 @@
-use Rattle.std.proofs.Common.{◌≡◌, ℕ, List, length, Ok, sym, refl, ap, ◌∙◌, subst, lit<, rules, arith}
+use Rattle.std.proofs.Common.{◌≡◌, ℕ, List, length, Ok, sym, refl, ap, ◌∙◌, subst, rules, arith}
 use Rattle.std.specs.List.{slice_get}
 use Rattle.words.specs.Edges.{Branch}
 use Rattle.words.specs.declared.Refusal.TheVariants.{NoItem}
@@ -21,11 +21,11 @@ outcome_item : (branch : Answer (Branch (List ℕ))) (b : Branch (List ℕ)) (i 
     → r ≡ outcome_word_of branch i → r ≡ found NoItem (slice_get b.outcome i)
 outcome_item branch b i r is h = h ∙ (rw is refl)
 
-pub heading-requires : goal.heading-requires
-heading-requires g c =
+pub of-requires : goal.of-requires
+of-requires g c =
     let M : Meaning = g.P.Part.meaning c.args.self.now.part.now in
     let is = ok_is (branch_of (edge_by_id M c.args.self.now.id) c.args.branch) c.requires in
-    (lit< tt, pairs_small M (g.met.P.Part.lawful c.args.self.now.part.now) c.args.self.now.id c.args.branch c.unwrap-count.result is.0 is.1 (sym c.assignment_count.ensures ∙ c.unwrap-count.ensures))
+    pairs_small M (g.met.P.Part.lawful c.args.self.now.part.now) c.args.self.now.id c.args.branch c.unwrap-count.result is.0 is.1 (sym c.assignment_count.ensures ∙ c.unwrap-count.ensures)
 
 pub mark_clash-requires : goal.mark_clash-requires
 mark_clash-requires g c =
@@ -33,11 +33,11 @@ mark_clash-requires g c =
     let is = ok_is (branch_of (edge_by_id M c.args.self.now.id) c.args.branch) c.requires in
     pairs_small M (g.met.P.Part.lawful c.args.self.now.part.now) c.args.self.now.id c.args.branch c.unwrap-count.result is.0 is.1 (sym c.assignment_count.ensures ∙ c.unwrap-count.ensures)
 
-pub heading-requires-2 : goal.heading-requires-2
-heading-requires-2 g c =
+pub of-requires-2 : goal.of-requires-2
+of-requires-2 g c =
     let M : Meaning = g.P.Part.meaning c.args.self.now.part.now in
     let is = ok_is (branch_of (edge_by_id M c.args.self.now.id) c.args.branch) c.requires in
-    (lit< tt, outcome_small M (g.met.P.Part.lawful c.args.self.now.part.now) c.args.self.now.id c.args.branch c.unwrap-length.result is.0 is.1 (sym c.outcome_length.ensures ∙ c.unwrap-length.ensures))
+    outcome_small M (g.met.P.Part.lawful c.args.self.now.part.now) c.args.self.now.id c.args.branch c.unwrap-length.result is.0 is.1 (sym c.outcome_length.ensures ∙ c.unwrap-length.ensures)
 
 pub put_row-requires-clause-told : goal.put_row-requires-clause-told
 put_row-requires-clause-told g c i r h p =
@@ -54,8 +54,8 @@ returns g c b is =
     let size = is-length branch b c.unwrap-length.result is (sym c.outcome_length.ensures ∙ c.unwrap-length.ensures) in
     branch_written b c.args.rec.now c.put.new.self c.put-2.new.self c.put_pairs.new.rec c.put-3.new.self c.put_row.new.rec
     c.args.words.now c.put.new.words c.put-2.new.words c.put_pairs.new.words c.mark_clash.new.words c.put-3.new.words c.put_row.new.words
-    c.unwrap-weight.result c.end-place.result c.heading.result c.heading-2.result
-    weight c.end-place.ensures (c.heading.ensures ∙ ap (word 0) count) (c.heading-2.ensures ∙ ap (word 0) size)
+    c.unwrap-weight.result c.end-place.result c.of.result c.of-2.result
+    weight c.end-place.ensures (c.of.ensures ∙ ap (word 0) count) (c.of-2.ensures ∙ ap (word 0) size)
     c.put.ensures c.put-2.ensures.wrote (c.put_pairs.ensures b is)
     c.mark_clash.auto.words (let P : ℕ → Type 0 = λ n. Marked c.put_pairs.new.words c.end-place.result n c.mark_clash.new.words in subst P count c.mark_clash.ensures)
     c.put-3.ensures.wrote (c.put_row.ensures b.outcome size (λ i r p. outcome_item branch b i r is (search rules)))
