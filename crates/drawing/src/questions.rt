@@ -56,11 +56,7 @@ impl Part for Drawing {
     }
 
     fn next(&self, from: usize) -> Result<Option<usize>, Refusal> {
-        if from < self.rows.count {
-            Ok(Some(from))
-        } else {
-            Ok(None)
-        }
+        Ok((from < self.rows.len()).then_some(from))
     }
 
     fn action(&self, id: usize) -> Result<u32, Refusal> {
