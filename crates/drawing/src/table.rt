@@ -1,8 +1,10 @@
 // The words of a drawing, read by what they hold.
 ghost use Rattle.std.specs.Prelude.{◌≡◌, length, drop, slice_index};
+ghost use Rattle.drawing.specs.Automata.{guard_of};
 ghost use Rattle.drawing.specs.Layout.{places, row_count, action_count, row_words, row_at};
 
-use words::{payload, word_at};
+use std::slice::from_ref;
+use words::{NONE, payload, word_at};
 
 /// How many words the header has.
 pub(crate) const HEADER: usize = 3;
@@ -18,6 +20,19 @@ pub(crate) struct Row {
     pub condition: u32,
     pub deadline: u32,
     pub outcome: u32,
+}
+
+impl Row {
+    /// The conditions of the row's guard: one or none.
+    pub(crate) fn guard(&self) -> &[u32]
+        ensures { result.now ≡ guard_of self.now.condition }
+    {
+        if self.condition == NONE {
+            &[]
+        } else {
+            from_ref(&self.condition)
+        }
+    }
 }
 
 /// The lent words of a drawing.
