@@ -5,6 +5,7 @@ pub mod Grounds
 pub mod Growing
 pub mod InSheet
 pub mod InTable
+pub mod Limits
 pub mod Marking
 pub mod Sizable
 pub mod Unique

@@ -1,11 +1,13 @@
 -- The work table while it is filled: a record has its word, or 0 as long as it is not known.
 --   word_from d s     the word of a depth and a span: 0 for a depth above its limit, the span at most one above its limit
+--   sized_from d s    the same, none for a depth above its limit
+--   given w           a word of the table: none while it is 0
 --   word_over x t     the word of a record over x, by the words of x in the table; over_one, over_two: by those words
 --   Gives r w        the word w gives the size of record r; the span is exact up to its limit
 --   True t           each word that is not 0 gives its record's size
 --   Settled n t      no word of the first n that is 0 can be given yet
 --   Grown n          true words were given, or none of the first n can be given and nothing changed
-use Rattle.std.specs.Prelude.{◌≡◌, ℕ, ◌+◌, ◌<◌, ◌≤◌, min, max, Bool, true, false, cond, ◌||◌, List, ◌==◌, nat_le, slice_index}
+use Rattle.std.specs.Prelude.{◌≡◌, ℕ, ◌+◌, ◌<◌, ◌≤◌, min, max, Bool, true, false, cond, ◌||◌, List, Some, None, Option, ◌==◌, nat_le, slice_index}
 use Rattle.sheet.specs.declared.step.Below.{Below}
 use Rattle.sheet.specs.declared.step.Below.TheVariants.{Absent, Leaf, One, Two}
 use Rattle.descent.specs.Blanks.{blanks}
@@ -13,6 +15,12 @@ use Rattle.descent.specs.Sizes.{Sized, max_depth, max_span, size_word, depth_of,
 
 abbrev pub word_from : ℕ → ℕ → ℕ
 word_from depth span = cond (nat_le depth max_depth) (size_word depth (min span (max_span + 1))) 0
+
+abbrev pub sized_from : ℕ → ℕ → Option ℕ
+sized_from depth span = cond (nat_le depth max_depth) (Some (size_word depth (min span (max_span + 1)))) None
+
+abbrev pub given : ℕ → Option ℕ
+given w = cond (w == 0) None (Some w)
 
 abbrev pub over_one : ℕ → ℕ
 over_one w = cond (w == 0) 0 (word_from (1 + depth_of w) (span_of w))

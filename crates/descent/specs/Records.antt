@@ -2,6 +2,7 @@
 --   down_in     what stands directly below a record
 --   callee     the process that a step calls, if it is a call; called_in: the process that a record calls
 --   in_reach    how many records are looked at: those that the header names and the table has a word for
+--   down_from, called_from  the same of the records in reach of a table
 use Rattle.std.specs.Prelude.{ℕ, min, cond, List, length, Some, None, Option, nat_lt}
 use Rattle.sheet.specs.declared.step.Below.{Below}
 use Rattle.sheet.specs.declared.step.Below.TheVariants.{Absent}
@@ -15,6 +16,9 @@ in_reach ws table = min (records ws) (length table)
 
 unfoldable pub down_in : List ℕ → ℕ → ℕ → Below
 down_in ws n r = cond (nat_lt r n) (below_at ws r) Absent
+
+abbrev pub down_from : List ℕ → List ℕ → ℕ → Below
+down_from ws t = down_in ws (in_reach ws t)
 
 abbrev pub callee : Step → Option ℕ
 callee Stop = None
@@ -32,3 +36,6 @@ callee Link = None
 
 unfoldable pub called_in : List ℕ → ℕ → ℕ → Option ℕ
 called_in ws n r = cond (nat_lt r n) (callee (step_at ws r)) None
+
+abbrev pub called_from : List ℕ → List ℕ → ℕ → Option ℕ
+called_from ws t = called_in ws (in_reach ws t)

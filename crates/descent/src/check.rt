@@ -5,7 +5,7 @@ ghost use Rattle.descent.specs.Sizes.{Filled};
 ghost use Rattle.descent.specs.Verdicts.{descent_check, EveryBehaviourSized};
 
 use crate::recursion::check_recursion;
-use crate::sizes::{check_depths, check_spans, settle};
+use crate::sizes::{Sizes, settle};
 use sheet::Reader;
 use words::Fault;
 
@@ -16,9 +16,9 @@ pub fn measure(reader: &Reader<'_>, table: &mut [u32]) -> Result<(), Fault>
     ensures filled { OnOk result (Filled (down_in reader.now.words.now (in_reach reader.now.words.now table.old)) table.new) }
     ensures sized { EveryBehaviourSized reader.now.words.now (length table.old) }
 {
-    let count = (reader.records() as usize).min(table.len()) as u32;
-    check_recursion(reader, count, table)?;
-    settle(reader, count, table);
-    check_depths(reader, count, table)?;
-    check_spans(reader, count, table)
+    check_recursion(reader, table)?;
+    settle(reader, table);
+    let sizes = Sizes { reader, table };
+    sizes.check_depths()?;
+    sizes.check_spans()
 }

@@ -2,6 +2,7 @@
 #![tactic(auto)]
 
 mod check;
+mod reach;
 mod recursion;
 mod sizes;
 mod word;

@@ -1,11 +1,12 @@
 // The recursion check: marks what a process's body reaches and looks for a call of that process.
-ghost use Rattle.std.specs.Prelude.{◌≡◌, ℕ, ◌<◌, ◌≤◌, false, length, Some, Decides};
+ghost use Rattle.std.specs.Prelude.{◌≡◌, ℕ, ◌<◌, false, Some, Decides};
 ghost use Rattle.sheet.specs.Layout.{body};
 ghost use Rattle.descent.specs.Descents.{DescendsToItself};
-ghost use Rattle.descent.specs.Records.{down_in, callee, called_in};
+ghost use Rattle.descent.specs.Records.{in_reach, down_from, callee, called_from};
 ghost use Rattle.descent.specs.Marks.{is_new, marking, marking_all, adds_to, Marked, Closed, Spread, Reached};
 ghost use Rattle.descent.specs.Verdicts.{recursion_check};
 
+use crate::reach::in_reach;
 use sheet::{Below, Reader, Step};
 use words::{Fault, Refusal, expect};
 
@@ -41,13 +42,13 @@ fn mark_all(table: &mut [u32], below: Below) -> bool
 }
 
 /// Marks all that stands directly below marked records, from the highest record down; tells whether a mark was added.
-fn spread(reader: &Reader<'_>, count: u32, table: &mut [u32]) -> bool
-    requires { count ≤ length table.old }
-    ensures spread { Spread (down_in reader.now.words.now count) table.old table.new result }
-    ensures closed { result ≡ false → (k : ℕ) → k < count → Closed (down_in reader.now.words.now count) table.new k }
+fn spread(reader: &Reader<'_>, table: &mut [u32]) -> bool
+    ensures spread { Spread (down_from reader.now.words.now table.old) table.old table.new result }
+    ensures closed { result ≡ false → (k : ℕ) → k < in_reach reader.now.words.now table.old → Closed (down_from reader.now.words.now table.old) table.new k }
 {
     let mut added = false;
-    for number in (0..count).rev() {
+    // Kept: a turn marks other words of the table than its own, so the table is not iterated.
+    for number in (0..in_reach(reader, table)).rev() {
         if table[number as usize] != 0 && mark_all(table, reader.below(number)) {
             added = true;
         }
@@ -56,58 +57,43 @@ fn spread(reader: &Reader<'_>, count: u32, table: &mut [u32]) -> bool
 }
 
 /// Marks exactly what a process's body reaches.
-fn mark_reached(reader: &Reader<'_>, count: u32, process: u32, table: &mut [u32])
-    requires { count ≤ length table.old }
-    ensures { Reached (down_in reader.now.words.now count) count (body reader.now.words.now process) table.new }
+fn mark_reached(reader: &Reader<'_>, process: u32, table: &mut [u32])
+    ensures { Reached (down_from reader.now.words.now table.old) (in_reach reader.now.words.now table.old) (body reader.now.words.now process) table.new }
 {
     table.fill(0);
     mark(table, reader.body(process));
-    while spread(reader, count, table) {}
+    while spread(reader, table) {}
 }
 
 /// Whether a step is a call of a process.
 fn is_call(step: Step, process: u32) -> bool
     ensures { Decides result (callee step ≡ Some process) }
 {
-    match step {
-        Step::Call(called) => called == process,
-        _ => false,
-    }
+    matches!(step, Step::Call(called) if called == process)
 }
 
 /// Whether a call of a process is marked.
-fn marks_call(reader: &Reader<'_>, count: u32, process: u32, table: &[u32]) -> bool
-    requires { count ≤ length table.now }
-    ensures { Decides result ((k : ℕ) × Marked table.now k × (called_in reader.now.words.now count k ≡ Some process)) }
+fn marks_call(reader: &Reader<'_>, process: u32, table: &[u32]) -> bool
+    ensures { Decides result ((k : ℕ) × Marked table.now k × (called_from reader.now.words.now table.now k ≡ Some process)) }
 {
-    for number in 0..count {
-        if table[number as usize] != 0 && is_call(reader.step(number), process) {
-            return true;
-        }
-    }
-    false
+    table.iter().zip(0..reader.records()).any(|(word, number)| *word != 0
+        && is_call(reader.step(number), process))
 }
 
 /// Whether a process descends to itself.
-fn descends_to_itself(reader: &Reader<'_>, count: u32, process: u32, table: &mut [u32]) -> bool
-    requires { count ≤ length table.old }
-    ensures { Decides result (DescendsToItself (down_in reader.now.words.now count) (called_in reader.now.words.now count) (body reader.now.words.now) process) }
+fn descends_to_itself(reader: &Reader<'_>, process: u32, table: &mut [u32]) -> bool
+    ensures { Decides result (DescendsToItself (down_from reader.now.words.now table.old) (called_from reader.now.words.now table.old) (body reader.now.words.now) process) }
 {
-    mark_reached(reader, count, process, table);
-    marks_call(reader, count, process, table)
+    mark_reached(reader, process, table);
+    marks_call(reader, process, table)
 }
 
 /// The lowest process that descends to itself.
-pub(crate) fn check_recursion(
-    reader: &Reader<'_>,
-    count: u32,
-    table: &mut [u32],
-) -> Result<(), Fault>
-    requires { count ≤ length table.old }
-    ensures { recursion_check reader.now.words.now count result }
+pub(crate) fn check_recursion(reader: &Reader<'_>, table: &mut [u32]) -> Result<(), Fault>
+    ensures { recursion_check reader.now.words.now (in_reach reader.now.words.now table.old) result }
 {
     for process in 0..reader.processes() {
-        let recursive = descends_to_itself(reader, count, process, table);
+        let recursive = descends_to_itself(reader, process, table);
         expect(!recursive, Refusal::Recursion, process as usize)?;
     }
     Ok(())

@@ -3,9 +3,11 @@
 -- Three header words give the number of places, of rows and of actions; then come the actions, which are
 -- the alphabet; then the rows, five words each.
 -- position: where a row begins. A row that is not there reads as all 0.
+-- row_words: the words of the rows that are there, each row's five together.
 -- before: what stands before number i in a sequence, 0 before the first.
-use Rattle.std.specs.Prelude.{ℕ, ◌+◌, ◌-◌, ◌*◌, cond, List, map, length, ◌==◌, nat_le, slice_index}
+use Rattle.std.specs.Prelude.{ℕ, ◌+◌, ◌-◌, ◌*◌, ◌/◌, cond, List, map, length, drop, ◌==◌, nat_le, slice_index}
 use Rattle.std.specs.List.{range_with_len}
+use Rattle.std.specs.Simd.{first_chunks}
 use Rattle.words.specs.Words.{payload_of}
 use Rattle.drawing.specs.declared.table.Row.{Row}
 
@@ -24,6 +26,9 @@ action_at ws i = slice_index ws (3 + i)
 
 abbrev pub position : List ℕ → ℕ → ℕ
 position ws r = 3 + action_count ws + 5 * r
+
+unfoldable pub row_words : List ℕ → List (List ℕ)
+row_words ws = let rest = drop (3 + action_count ws) ws in first_chunks 5 (length rest / 5) rest
 
 abbrev pub blank : Row
 blank = record { from = 0; action = 0; condition = 0; deadline = 0; outcome = 0 }

@@ -1,9 +1,11 @@
 -- The rows of a place are a range of all rows.
-use Rattle.std.specs.Prelude.{◌≡◌, ℕ, zero, suc, ◌+◌, ◌-◌, ◌<◌, ◌≤◌, max, Bool, true, false, not, List, ◌∷◌, map, length, Some, filter, ◌==◌, nat_eq, refl}
+use Rattle.std.specs.Prelude.{◌≡◌, ℕ, zero, suc, ◌+◌, ◌-◌, ◌<◌, ◌≤◌, max, Bool, true, false, not, List, [], ◌∷◌, ◌++◌, map, length, Some, filter, ◌==◌, nat_eq, refl}
 use Rattle.std.proofs.Common.{sym, ◌∙◌, ap, ⊎_elim, add-one, arith}
-use Rattle.std.specs.List.{range_with_len, slice_get}
-use Rattle.std.proofs.lemmas.List.FromFn.{length-map-range_with_len}
+use Rattle.std.specs.List.{range_with_len, slice_get, fold}
+use Rattle.std.proofs.lemmas.List.FromFn.{length-map-range_with_len, map-range_with_len_more}
 use Rattle.std.proofs.lemmas.List.Filters.{length-filter_both}
+use Rattle.std.proofs.lemmas.List.Sums.{fold-append}
+use Rattle.std.proofs.lemmas.List.Folds.{fold-map}
 use Rattle.std.proofs.lemmas.Bool.{cases_eq, cases_lt, cond-true, cond-false, eq-eqb, ne_eqb}
 use Rattle.drawing.specs.Automata.{place_word, rows_from, greatest, most_rows}
 use Rattle.drawing.specs.Layout.{places, row_count, row_at, rows_of}
@@ -47,7 +49,7 @@ nth_counted f a (suc n) (suc i) h =
     nth_counted f (a + 1) n i (omega arith) ∙ ap (λ k. Some (f k)) e
 
 module _ (ws : List ℕ) (up : Rising ws) (w : ℕ) where
-  pub rows_in_range : rows_from ws w ≡ map (row_at ws) (range_with_len (range_of ws w).first (range_of ws w).count)
+  pub rows_in_range : rows_from ws w ≡ map (row_at ws) (range_with_len (range_of ws w).start ((range_of ws w).end - (range_of ws w).start))
   unfolding rows_from rows_before
   rows_in_range =
       let low : Cut (from_at ws) w (row_count ws) _ = below_cuts (from_at ws) w (row_count ws) up in
@@ -59,13 +61,30 @@ module _ (ws : List ℕ) (up : Rising ws) (w : ℕ) where
       (λ r h l. let q = low.rest r h (omega arith) in let t = high.less r l in eq-eqb (from_at ws r) w (omega arith))
       (λ r h l. let q = high.rest r h (omega arith) in ne_eqb (from_at ws r) w (λ e. omega arith))
 
-  pub rows-counted : length (rows_from ws w) ≡ (range_of ws w).count
-  rows-counted = ap length rows_in_range ∙ length-map-range_with_len (row_at ws) (range_of ws w).first (range_of ws w).count
+  pub rows-counted : length (rows_from ws w) ≡ (range_of ws w).end - (range_of ws w).start
+  rows-counted = ap length rows_in_range ∙ length-map-range_with_len (row_at ws) (range_of ws w).start ((range_of ws w).end - (range_of ws w).start)
 
 -- the most rows of a place
-pub greatest-more : (f : ℕ → ℕ) (n here most more : ℕ) → more ≡ max here most → here ≡ f n → most ≡ greatest f n → more ≡ greatest f (n + 1)
-greatest-more f n here most more more_is here_is most_is =
-    more_is ∙ (ap (λ k. max k most) here_is ∙ (ap (max (f n)) most_is ∙ sym (ap (greatest f) (add-one n))))
+greatest-same : (f g : ℕ → ℕ) (n : ℕ) → ((p : ℕ) → f p ≡ g p) → greatest f n ≡ greatest g n
+greatest-same f g zero h = refl
+greatest-same f g (suc n) h = ap (λ k. max k (greatest f n)) (h n) ∙ ap (max (g n)) (greatest-same f g n h)
+
+greatest_folded : (h : ℕ → ℕ) (a n : ℕ) → fold (λ m x. max m x) 0 (map h (range_with_len a n)) ≡ greatest (λ p. h (a + p)) n
+greatest_folded h a zero = refl
+greatest_folded h a (suc n) =
+    let more : map h (range_with_len a (n + 1)) ≡ map h (range_with_len a n) ++ h (a + n) ∷ [] = map-range_with_len_more h a n (a + n) refl in
+    let last = fold-append (λ m x. max m x) 0 (map h (range_with_len a n)) (h (a + n) ∷ []) in
+    let before = greatest_folded h a n in
+    ap (λ k. fold (λ m x. max m x) 0 (map h (range_with_len a k))) (sym (add-one n)) ∙ (ap (fold (λ m x. max m x) 0) more ∙ (last ∙ omega arith))
+
+-- the most rows of a place, from the place's words in their order
+pub most_folded : (ws : List ℕ) → Rising ws → fold (λ m w. max m ((range_of ws w).end - (range_of ws w).start)) 0 (range_with_len (place_word 0) (places ws)) ≡ most_rows ws
+unfolding most_rows
+most_folded ws up =
+    sym (fold-map (λ m x. max m x) (λ w. (range_of ws w).end - (range_of ws w).start) 0 (range_with_len (place_word 0) (places ws)))
+    ∙ greatest_folded (λ w. (range_of ws w).end - (range_of ws w).start) (place_word 0) (places ws)
+    ∙ greatest-same (λ p. (range_of ws (place_word 0 + p)).end - (range_of ws (place_word 0 + p)).start) (λ p. length (rows_from ws (place_word p))) (places ws)
+    (λ p. sym (rows-counted ws up (place_word p)))
 
 pub at_most : (f : ℕ → ℕ) (n r : ℕ) → r < n → f r ≤ greatest f n
 at_most f zero r h = absurd (omega arith)

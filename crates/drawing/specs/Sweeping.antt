@@ -1,9 +1,14 @@
 -- Words of the alphabet and rows of the table, one more at a time.
-use Rattle.std.specs.Prelude.{◌≡◌, ℕ, zero, suc, ◌+◌, ◌-◌, ◌*◌, ◌/◌, ◌%◌, ◌<◌, Bool, true, false, ltb, List, Err, ◌==◌, ◌≢◌, nat_eq, nat_lt}
-use Rattle.std.proofs.Common.{sym, ◌∙◌, ⊎_elim, add-one}
+use Rattle.std.specs.Prelude.{◌≡◌, ℕ, zero, suc, ◌+◌, ◌-◌, ◌*◌, ◌/◌, ◌%◌, ◌<◌, Bool, true, false, ltb, ◌||◌, List, [], ◌∷◌, ◌++◌, map, Err, ◌==◌, nat_eq, nat_lt, slice_index, refl}
+use Rattle.std.proofs.Common.{sym, ◌∙◌, add-one}
 use Rattle.std.proofs.Math.Path.{ap, subst}
+use Rattle.std.proofs.Math.Bool.{or-false}
+use Rattle.std.specs.List.{range_with_len, list_any}
+use Rattle.std.proofs.lemmas.List.{map-id}
+use Rattle.std.proofs.lemmas.List.Folds.{list_any-append}
+use Rattle.std.proofs.lemmas.List.FromFn.{map-range_with_len_more}
 use native.Mathlib.Omega.{arith}
-use Rattle.std.proofs.lemmas.Bool.{cases_eq, eq-eqb, ne_eqb, cond-false, and_left, and_right, and_from, or_from, or_left, or_right}
+use Rattle.std.proofs.lemmas.Bool.{ne_eqb, cond-false, and_left, and_right, and_from}
 use Rattle.words.specs.Checks.{fault, Clear, Lowest, lowest}
 use Rattle.words.specs.Words.{observable}
 use Rattle.words.specs.declared.Fault.{Fault}
@@ -33,16 +38,18 @@ module _ (ws : List ℕ) (i last action : ℕ) (last_is : last ≡ before (actio
       and_from (observable (action_at ws i)) _ (ap observable (sym action_is) ∙ (sym b_is ∙ h))
       (ap (λ x. ltb x (action_at ws i)) (sym last_is) ∙ (ap (ltb last) (sym action_is) ∙ l))
 
-pub listed_more : (ws : List ℕ) (a i w : ℕ) → w ≡ action_at ws i → (w ≢ a) → listed ws a i ≡ false → listed ws a (i + 1) ≡ false
-listed_more ws a i w w_is other h =
-    ap (listed ws a) (add-one i) ∙ or_from _ _ h (ap (λ x. nat_eq x a) (sym w_is) ∙ ne_eqb w a other)
-
-pub listed_has : (ws : List ℕ) (a n i : ℕ) → i < n → action_at ws i ≡ a → listed ws a n ≡ true
-listed_has ws a zero i h e = absurd (omega arith)
-listed_has ws a (suc n) i h e = ⊎_elim
-    (λ q. or_right (listed ws a n) (action_at ws n == a) (eq-eqb (action_at ws n) a (ap (action_at ws) (sym q) ∙ e)))
-    (λ q. or_left (listed ws a n) (action_at ws n == a) (listed_has ws a n i (omega arith) e))
-    (cases_eq i n)
+-- the words of the alphabet in their order, one of which is an action
+pub listed_any : (ws : List ℕ) (a n : ℕ) → list_any (λ at. nat_eq (slice_index ws at) a) (range_with_len 3 n) ≡ listed ws a n
+listed_any ws a zero = refl
+listed_any ws a (suc n) =
+    let is : (ℕ → Bool) = λ at. nat_eq (slice_index ws at) a in
+    let same : (k : ℕ) → map (λ (x : ℕ). x) (range_with_len 3 k) ≡ range_with_len 3 k = λ k. map-id (range_with_len 3 k) in
+    let more : range_with_len 3 (n + 1) ≡ range_with_len 3 n ++ (3 + n) ∷ []
+    = sym (same (n + 1)) ∙ (map-range_with_len_more (λ x. x) 3 n (3 + n) refl ∙ ap (λ xs. xs ++ (3 + n) ∷ []) (same n)) in
+    ap (λ k. list_any is (range_with_len 3 k)) (sym (add-one n))
+    ∙ (ap (list_any is) more
+    ∙ (list_any-append is (range_with_len 3 n) ((3 + n) ∷ [])
+    ∙ (ap (λ b. b || (is (3 + n) || false)) (listed_any ws a n) ∙ ap (λ b. listed ws a n || b) (or-false (is (3 + n))))))
 
 -- a row, by the words that were read and the from-place of the one before
 module _ (ws : List ℕ) (r last : ℕ) (row : Row) (last_is : last ≡ from_before ws r) (row_is : row ≡ row_at ws r) where

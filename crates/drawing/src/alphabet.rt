@@ -23,10 +23,5 @@ pub(crate) fn check_alphabet(table: &Table<'_>) -> Result<(), Fault>
 pub(crate) fn in_alphabet(table: &Table<'_>, action: u32) -> bool
     ensures { result ≡ in_alphabet table.now.words.now action }
 {
-    for i in 0..table.actions() {
-        if table.word(HEADER + i) == action {
-            return true;
-        }
-    }
-    false
+    (HEADER..HEADER + table.actions()).any(|at| table.word(at) == action)
 }

@@ -5,8 +5,8 @@ ghost use Rattle.drawing.specs.Checks.{is_place_word};
 ghost use Rattle.drawing.specs.Ranges.{range_of};
 ghost use Rattle.drawing.specs.Right.{Headed, Counted, Alphabetical, Tabled};
 
-use crate::ranges::Range;
 use part::Ceilings;
+use std::ops::Range;
 use words::Fault;
 
 /// The part that the words of a drawing describe. It begins at the first place.
@@ -16,7 +16,7 @@ pub struct Drawing {
     /// The code of the present place, one word.
     pub(crate) place: u32,
     /// The rows of the present place.
-    pub(crate) rows: Range,
+    pub(crate) rows: Range<usize>,
     pub(crate) ceilings: Ceilings,
     ghost headed: { Headed words.items },
     ghost counted: { Counted words.items },

@@ -21,11 +21,10 @@ impl Drawing {
         ensures row { result ≡ row_by_id self.now id }
         ensures edge { edge_of result ≡ edge_by_id (meaning_of self.now) id }
     {
-        if id < self.rows.count {
-            Ok(self.table().row(self.rows.first + id))
-        } else {
-            Err(Refusal::NoEdge)
+        if id >= self.rows.len() {
+            return Err(Refusal::NoEdge);
         }
+        Ok(self.table().row(self.rows.start + id))
     }
 
     /// The same row, for a branch of that edge.
@@ -34,10 +33,6 @@ impl Drawing {
         ensures branch { branch_in result ≡ branch_of (edge_by_id (meaning_of self.now) id) branch }
     {
         let row = self.row_at(id)?;
-        if branch == 0 {
-            Ok(row)
-        } else {
-            Err(Refusal::NoBranch)
-        }
+        (branch == 0).then_some(row).ok_or(Refusal::NoBranch)
     }
 }

@@ -8,7 +8,7 @@ use crate::alphabet::check_alphabet;
 use crate::drawing::{Drawing, Refused};
 use crate::header::{check_count, check_header};
 use crate::places::START;
-use crate::ranges::{ceilings_of, rows_at};
+use crate::ranges::Sorted;
 use crate::rows::check_rows;
 use crate::table::Table;
 use words::Fault;
@@ -28,9 +28,11 @@ fn at_start(words: Vec<u32>) -> Drawing
     requires { verdict words.items (Ok tt) }
     ensures { Accepted words.items result }
 {
-    let table = Table::new(&words);
-    let rows = rows_at(&table, START);
-    let ceilings = ceilings_of(&table);
+    let sorted = Sorted {
+        table: Table::new(&words),
+    };
+    let rows = sorted.rows_at(START);
+    let ceilings = sorted.ceilings();
     Drawing {
         words,
         place: START,

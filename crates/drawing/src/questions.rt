@@ -4,7 +4,7 @@ ghost use Rattle.drawing.specs.Law.{drawing_lawful};
 
 use crate::alphabet::in_alphabet;
 use crate::drawing::Drawing;
-use crate::items::{guard_item, guard_length, only};
+use crate::items::item_of;
 use crate::places::{DONE, is_place_word};
 use part::{Assignment, Ceilings, Part};
 use words::Refusal;
@@ -52,15 +52,11 @@ impl Part for Drawing {
     }
 
     fn code_word(&self, item: usize) -> Result<u32, Refusal> {
-        only(self.place, item)
+        item_of(&[self.place], item)
     }
 
     fn next(&self, from: usize) -> Result<Option<usize>, Refusal> {
-        if from < self.rows.count {
-            Ok(Some(from))
-        } else {
-            Ok(None)
-        }
+        Ok((from < self.rows.len()).then_some(from))
     }
 
     fn action(&self, id: usize) -> Result<u32, Refusal> {
@@ -70,12 +66,12 @@ impl Part for Drawing {
 
     fn guard_length(&self, id: usize) -> Result<usize, Refusal> {
         let row = self.row_at(id)?;
-        Ok(guard_length(row.condition))
+        Ok(row.guard().len())
     }
 
     fn guard_word(&self, id: usize, item: usize) -> Result<u32, Refusal> {
         let row = self.row_at(id)?;
-        guard_item(row.condition, item)
+        item_of(row.guard(), item)
     }
 
     fn deadline_length(&self, id: usize) -> Result<usize, Refusal> {
@@ -85,7 +81,7 @@ impl Part for Drawing {
 
     fn deadline_word(&self, id: usize, item: usize) -> Result<u32, Refusal> {
         let row = self.row_at(id)?;
-        only(row.deadline, item)
+        item_of(&[row.deadline], item)
     }
 
     fn branch_count(&self, id: usize) -> Result<usize, Refusal> {
@@ -115,6 +111,6 @@ impl Part for Drawing {
 
     fn outcome_word(&self, id: usize, branch: usize, item: usize) -> Result<u32, Refusal> {
         let row = self.branch_at(id, branch)?;
-        only(row.outcome, item)
+        item_of(&[row.outcome], item)
     }
 }

@@ -1,8 +1,10 @@
 // The words of a drawing, read by what they hold.
-ghost use Rattle.std.specs.Prelude.{◌≡◌, ◌<◌, length, slice_index};
-ghost use Rattle.drawing.specs.Layout.{places, row_count, action_count, five_from, row_at};
+ghost use Rattle.std.specs.Prelude.{◌≡◌, length, drop, slice_index};
+ghost use Rattle.drawing.specs.Automata.{guard_of};
+ghost use Rattle.drawing.specs.Layout.{places, row_count, action_count, row_words, row_at};
 
-use words::payload;
+use std::slice::from_ref;
+use words::{NONE, payload, word_at};
 
 /// How many words the header has.
 pub(crate) const HEADER: usize = 3;
@@ -10,8 +12,8 @@ pub(crate) const HEADER: usize = 3;
 /// How many words a row has.
 pub(crate) const ROW: usize = 5;
 
-/// A row: an edge from a place, with one outcome.
-#[derive(Clone, Copy)]
+/// A row: an edge from a place, with one outcome. A row that is not there reads as all 0.
+#[derive(Clone, Copy, Default)]
 pub(crate) struct Row {
     pub from: u32,
     pub action: u32,
@@ -20,14 +22,18 @@ pub(crate) struct Row {
     pub outcome: u32,
 }
 
-/// What a row that is not there reads as.
-const BLANK: Row = Row {
-    from: 0,
-    action: 0,
-    condition: 0,
-    deadline: 0,
-    outcome: 0,
-};
+impl Row {
+    /// The conditions of the row's guard: one or none.
+    pub(crate) fn guard(&self) -> &[u32]
+        ensures { result.now ≡ guard_of self.now.condition }
+    {
+        if self.condition == NONE {
+            &[]
+        } else {
+            from_ref(&self.condition)
+        }
+    }
+}
 
 /// The lent words of a drawing.
 #[derive(Clone, Copy)]
@@ -54,11 +60,14 @@ impl<'a> Table<'a> {
     pub(crate) fn word(&self, position: usize) -> u32
         ensures { result ≡ slice_index self.now.words.now position }
     {
-        if position < self.words.len() {
-            self.words[position]
-        } else {
-            0
-        }
+        word_at(self.words, position)
+    }
+
+    /// The words from a position on, none past the end.
+    fn rest(&self, position: usize) -> &'a [u32]
+        ensures { result.now ≡ drop position self.now.words.now }
+    {
+        self.words.get(position..).unwrap_or_default()
     }
 
     /// How many places the header names.
@@ -82,30 +91,27 @@ impl<'a> Table<'a> {
         payload(self.word(2)) as usize
     }
 
-    /// The five words from a position on, all 0 if they are not all there.
-    fn five(&self, start: usize) -> Row
-        ensures { result ≡ five_from self.now.words.now start }
+    /// The rows that are there, five words each.
+    pub(crate) fn all_rows(&self) -> &'a [[u32; ROW]]
+        ensures { result.now ≡ row_words self.now.words.now }
     {
-        if start > self.words.len() {
-            return BLANK;
-        }
-        let [from, action, condition, deadline, outcome, _rest @ ..] = &self.words[start..] else {
-            return BLANK;
-        };
-        Row {
-            from: *from,
-            action: *action,
-            condition: *condition,
-            deadline: *deadline,
-            outcome: *outcome,
-        }
+        let (rows, _rest) = self.rest(HEADER + self.actions()).as_chunks();
+        rows
     }
 
     /// The row of a number.
     pub(crate) fn row(&self, number: usize) -> Row
-        requires { number < row_count self.now.words.now }
         ensures { result ≡ row_at self.now.words.now number }
     {
-        self.five(HEADER + self.actions() + ROW * number)
+        match self.all_rows().get(number) {
+            Some(&[from, action, condition, deadline, outcome]) => Row {
+                from,
+                action,
+                condition,
+                deadline,
+                outcome,
+            },
+            None => Row::default(),
+        }
     }
 }

@@ -22,21 +22,12 @@ fn judge(words: &[u32], table: &mut [u32]) -> Result<(), Fault>
     measure(&reader, table)
 }
 
-/// The same of a table that is owned.
-fn fill_table(words: &[u32], table: &mut Vec<u32>) -> Result<(), Fault>
-    ensures verdict { verdict words.now (length table.old.items) result }
-    ensures filled { OnOk result (Filled (down_in words.now (records words.now)) table.new.items) }
-    ensures kept { length table.new.items ≡ length table.old.items }
-{
-    judge(words, table)
-}
-
 /// Loads a sheet with its work table, or gives both back with the fault, the table all 0.
 pub fn load(words: Vec<u32>, mut table: Vec<u32>) -> Result<Model, Refused>
     ensures loading { Loading words.items (length table.items) result }
     ensures single { Single (verdict words.items (length table.items)) }
 {
-    match fill_table(&words, &mut table) {
+    match judge(&words, &mut table) {
         Ok(()) => Ok(Model { words, table }),
         Err(fault) => {
             table.fill(0);

@@ -3,6 +3,7 @@ ghost use Rattle.std.specs.Prelude.{◌≡◌, slice_index};
 
 use crate::Model;
 use sheet::Reader;
+use words::word_at;
 
 impl Model {
     /// A reader over the sheet's words.
@@ -16,10 +17,6 @@ impl Model {
     pub fn size(&self, number: u32) -> u32
         ensures { result ≡ slice_index self.now.table.items number }
     {
-        let at = number as usize;
-        if at < self.table.len() {
-            return self.table[at];
-        }
-        0
+        word_at(&self.table, number as usize)
     }
 }

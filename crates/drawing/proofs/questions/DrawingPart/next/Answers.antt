@@ -1,8 +1,9 @@
-use Rattle.drawing.proofs.Answered.{next_here, no_next}
+use Rattle.std.proofs.Common.{Ok, ap, ltb, ◌∙◌}
+use Rattle.std.specs.Bool.{then_some}
+use Rattle.drawing.proofs.Answered.{next_told}
 use Rattle.drawing.proofs.questions.DrawingPart.next.Goals as goal
 
-pub returns-then-from-self : goal.returns-then-from-self
-returns-then-from-self c = next_here c.args.self.now c.args.from c.if-from-self.true
-
-pub returns-else-from-self : goal.returns-else-from-self
-returns-else-from-self c = no_next c.args.self.now c.args.from c.if-from-self.false
+pub returns : goal.returns
+returns c =
+    let from = c.args.from in
+    ap Ok c.then_some.ensures ∙ (ap (λ n. Ok (then_some (ltb from n) from)) c.len.ensures.value ∙ next_told c.args.self.now from)

@@ -3,7 +3,7 @@ use borrow.Author.Tests.{not-true, not-false}
 use Rattle.std.proofs.lemmas.Result.{err_from_is_err_and}
 use Rattle.std.proofs.lemmas.Bool.Decides.{not_from_Decides}
 use Rattle.descent.specs.Verdicts.{depth_check}
-use Rattle.descent.proofs.sizes.check_depths.Goals as goal
+use Rattle.descent.proofs.sizes.Sizes.check_depths.Goals as goal
 
 pub returns-in_err-expect : goal.returns-in_err-expect
 unfolding depth_check

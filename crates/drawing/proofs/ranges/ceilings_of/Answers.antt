@@ -1,6 +1,0 @@
-use Rattle.std.proofs.Common.{arith}
-use Rattle.drawing.specs.PlaceRows.{rows_few}
-use Rattle.drawing.proofs.ranges.ceilings_of.Goals as goal
-
-pub overflow_add-result : goal.overflow_add-result
-overflow_add-result c = omega (arith, rows_few c.args.table.now.words.now)
