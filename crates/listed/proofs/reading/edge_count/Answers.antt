@@ -1,8 +1,8 @@
 use Rattle.std.proofs.Common.{ℕ, List, get_or, drop, sym, refl, ap, ◌∙◌}
 use Rattle.words.specs.Words.{payload_of}
 use Rattle.lists.specs.Reading.{edge_in, edges_from, behind_edge}
-use Rattle.listed.proofs.Passing.{count_items}
-use Rattle.listed.proofs.edges.edge_count.Goals as goal
+use Rattle.listed.proofs.Standing.{count_items}
+use Rattle.listed.proofs.reading.edge_count.Goals as goal
 
 pub returns : goal.returns
 returns c =
