@@ -1,2 +1,3 @@
+pub mod Puts
 pub mod Spelled
-pub mod Sums
+pub mod Yielded

@@ -1,35 +1,11 @@
--- The texts of the three lines, put together from what was read.
-use Rattle.std.proofs.Common.{◌≡◌, ℕ, zero, suc, ◌≤◌, List, [], ◌∷◌, ◌++◌, length, drop, Some, Ok, Err, codes, decimal, refl, ap, arith}
+-- The lines that are told by number, from what was read.
+use Rattle.std.proofs.Common.{◌≡◌, ℕ, zero, suc, ◌≤◌, List, [], ◌∷◌, length, drop, Some, Ok, Err, refl, arith}
 use Rattle.std.proofs.lemmas.Option.{slice_get_past}
 use Rattle.std.specs.List.{slice_get}
 use Rattle.words.specs.Edges.{Branch, Edge}
 use Rattle.words.specs.declared.Refusal.TheVariants.{NoEdge, NoBranch}
-use Rattle.lists.specs.Reading.{pairs_in, edges_in}
-use Rattle.lines.specs.Letters.{word_text}
-use Rattle.lines.specs.Lines.{spaced, bracketed, pair_text, code_text, head_text, edge_text, branch_text, edge_line_in, branch_line_in}
-use Rattle.lines.specs.declared.letters.Form.TheVariants.{Plain, Action, Deadline}
-
-pub head_spelled : (count edges : ℕ) → count ≡ edges → codes "edges " ++ decimal count ≡ head_text edges
-unfolding head_text
-head_spelled count edges is = ap (λ (n : ℕ). codes "edges " ++ decimal n) is
-
-pub edge_spelled :
-    (number : ℕ) (e : Edge (List ℕ)) (action : ℕ) (guard deadline : List ℕ) (count : ℕ) →
-    action ≡ e.action → guard ≡ e.guard → deadline ≡ e.deadline → count ≡ length e.branches →
-    decimal number ++ (codes " " ++ (word_text Action action ++ (codes " g" ++ (bracketed (spaced (word_text Plain) guard)
-    ++ (codes " d" ++ (bracketed (spaced (word_text Deadline) deadline) ++ (codes " b" ++ decimal count)))))))
-    ≡ edge_text number e
-unfolding edge_text
-edge_spelled number e action guard deadline count a g d n = rw (a, g, d, n) refl
-
-pub branch_spelled :
-    (number : ℕ) (b : Branch (List ℕ)) (weight : ℕ) (pairs outcome : List ℕ) →
-    weight ≡ b.weight → pairs_in pairs ≡ b.assignments → outcome ≡ b.outcome →
-    codes " " ++ (decimal number ++ (codes " w" ++ (decimal weight ++ (codes " a" ++ (bracketed (spaced pair_text (pairs_in pairs))
-    ++ (codes " > " ++ code_text outcome))))))
-    ≡ branch_text number b
-unfolding branch_text
-branch_spelled number b weight pairs outcome w p o = rw (w, p, o) refl
+use Rattle.lists.specs.Reading.{edges_in}
+use Rattle.lines.specs.Lines.{edge_text, branch_text, edge_line_in, branch_line_in}
 
 -- an item by its number, from what is left of the items
 pub nth_dropped : {X : Type 0} (xs : List X) (i : ℕ) (x : X) (ys : List X) → x ∷ ys ≡ drop i xs → slice_get xs i ≡ Some x

@@ -3,45 +3,49 @@
 -- An action is t (tau), p (patient), i (impatient), x (exception), b (break) or e (error);
 -- a deadline's word is F, T, c (a condition), & or |;
 -- a place's word is . (done), ! (error), n (a record), / (a frame) or * (a pair, with the left length).
-use Rattle.std.specs.Prelude.{ℕ, Bool, cond, not, ◌||◌, List, [], ◌∷◌, codes, decimal, ◌==◌, slice_index}
-use Prim.Native.String.{String}
+use Rattle.std.specs.Prelude.{ℕ, cond, not, List, ◌++◌, codes, decimal, ◌==◌}
 use Rattle.words.specs.Words.{kind_of, payload_of}
-use Rattle.lines.specs.declared.letters.Form.{Form}
-use Rattle.lines.specs.declared.letters.Form.TheVariants.{Plain, Action, Deadline, Place}
+use Rattle.lines.specs.declared.letters.Action.{Action}
+use Rattle.lines.specs.declared.letters.Action.TheVariants.{Tau, Patient, Impatient, Exception, Break, Error}
+use Rattle.lines.specs.declared.letters.Term.{Term}
+use Rattle.lines.specs.declared.letters.Term.TheVariants.{Constant, Condition, And, Or}
+use Rattle.lines.specs.declared.letters.CodeWord.{CodeWord}
+use Rattle.lines.specs.declared.letters.CodeWord.TheVariants.{Done, Failed, Record, Frame, Pair}
 
-abbrev pub byte : String → ℕ
-byte s = slice_index (codes s) 0
+-- what a word stands for: as an action, as a deadline's word, as a place's word
+abbrev pub action_of : ℕ → Action
+action_of w =
+    cond (kind_of w == 0) Tau (cond (kind_of w == 1) (Patient (payload_of w)) (cond (kind_of w == 2) (Impatient (payload_of w))
+    (cond (kind_of w == 3) (Exception (payload_of w)) (cond (kind_of w == 4) Break Error))))
 
-abbrev pub action_letter : ℕ → ℕ
-action_letter kind =
-    cond (kind == 0) (byte "t") (cond (kind == 1) (byte "p") (cond (kind == 2) (byte "i")
-    (cond (kind == 3) (byte "x") (cond (kind == 4) (byte "b") (byte "e")))))
+abbrev pub term_of : ℕ → Term
+term_of w =
+    cond (kind_of w == 0) (Constant (not (payload_of w == 0)))
+    (cond (kind_of w == 1) (Condition (payload_of w)) (cond (kind_of w == 2) And Or))
 
-abbrev pub action_numbered : ℕ → Bool
-action_numbered kind = kind == 1 || (kind == 2 || kind == 3)
+abbrev pub code_word_of : ℕ → CodeWord
+code_word_of w =
+    cond (kind_of w == 8) (cond (payload_of w == 0) Done Failed)
+    (cond (kind_of w == 9) (Record (payload_of w)) (cond (kind_of w == 10) (Frame (payload_of w)) (Pair (payload_of w))))
 
-abbrev pub deadline_letter : ℕ → ℕ → ℕ
-deadline_letter kind payload =
-    cond (kind == 0) (cond (payload == 0) (byte "F") (byte "T"))
-    (cond (kind == 1) (byte "c") (cond (kind == 2) (byte "&") (byte "|")))
+-- how each is spelled
+abbrev pub action_text : Action → List ℕ
+action_text Tau = codes "t"
+action_text (Patient n) = codes "p" ++ decimal n
+action_text (Impatient n) = codes "i" ++ decimal n
+action_text (Exception n) = codes "x" ++ decimal n
+action_text Break = codes "b"
+action_text Error = codes "e"
 
-abbrev pub deadline_numbered : ℕ → Bool
-deadline_numbered kind = kind == 1
+abbrev pub term_text : Term → List ℕ
+term_text (Constant truth) = cond truth (codes "T") (codes "F")
+term_text (Condition n) = codes "c" ++ decimal n
+term_text And = codes "&"
+term_text Or = codes "|"
 
-abbrev pub place_letter : ℕ → ℕ → ℕ
-place_letter kind payload =
-    cond (kind == 8) (cond (payload == 0) (byte ".") (byte "!"))
-    (cond (kind == 9) (byte "n") (cond (kind == 10) (byte "/") (byte "*")))
-
-abbrev pub place_numbered : ℕ → Bool
-place_numbered kind = not (kind == 8)
-
-abbrev pub lettered : ℕ → Bool → ℕ → List ℕ
-lettered letter numbered w = letter ∷ cond numbered (decimal (payload_of w)) []
-
--- a word as a plain number, as an action, as a deadline's word or as a place's word
-abbrev pub word_text : Form → ℕ → List ℕ
-word_text Plain w = decimal w
-word_text Action w = lettered (action_letter (kind_of w)) (action_numbered (kind_of w)) w
-word_text Deadline w = lettered (deadline_letter (kind_of w) (payload_of w)) (deadline_numbered (kind_of w)) w
-word_text Place w = lettered (place_letter (kind_of w) (payload_of w)) (place_numbered (kind_of w)) w
+abbrev pub code_word_text : CodeWord → List ℕ
+code_word_text Done = codes "."
+code_word_text Failed = codes "!"
+code_word_text (Record n) = codes "n" ++ decimal n
+code_word_text (Frame n) = codes "/" ++ decimal n
+code_word_text (Pair n) = codes "*" ++ decimal n

@@ -1,14 +1,13 @@
 -- The lines of a report, byte by byte, without their newlines.
 --
 -- A line that does not fit its buffer is refused; the buffer is then 0, and so is what is left of it otherwise.
-use Rattle.std.specs.Prelude.{ℕ, ◌-◌, cond, List, [], ◌∷◌, ◌++◌, length, replicate, Ok, Err, codes, decimal, nat_le}
+use Rattle.std.specs.Prelude.{ℕ, ◌-◌, cond, List, [], ◌∷◌, ◌++◌, length, replicate, map, Ok, Err, codes, decimal, nat_le}
 use Rattle.std.specs.List.{flat_map, slice_get}
 use Rattle.words.specs.Edges.{Branch, Edge}
 use Rattle.words.specs.declared.Refusal.TheVariants.{NoEdge, NoBranch, LineTooLong}
 use Rattle.part.specs.Questions.{Answer, found, then}
 use Rattle.lists.specs.Reading.{edges_in}
-use Rattle.lines.specs.Letters.{word_text}
-use Rattle.lines.specs.declared.letters.Form.TheVariants.{Plain, Action, Deadline, Place}
+use Rattle.lines.specs.Letters.{action_of, action_text, term_of, term_text, code_word_of, code_word_text}
 
 -- items in brackets, parted by one space
 abbrev pub spaced : {X : Type 0} → (X → List ℕ) → List X → List ℕ
@@ -24,16 +23,16 @@ pair_text pair = decimal pair.0 ++ (codes "=" ++ decimal pair.1)
 -- a place's code without spaces; ~ is beyond
 abbrev pub code_text : List ℕ → List ℕ
 code_text [] = codes "~"
-code_text (w ∷ ws) = flat_map (word_text Place) (w ∷ ws)
+code_text (w ∷ ws) = flat_map code_word_text (map code_word_of (w ∷ ws))
 
 unfoldable pub head_text : ℕ → List ℕ
 head_text edges = codes "edges " ++ decimal edges
 
 unfoldable pub edge_text : ℕ → Edge (List ℕ) → List ℕ
 edge_text number e =
-    decimal number ++ (codes " " ++ (word_text Action e.action
-    ++ (codes " g" ++ (bracketed (spaced (word_text Plain) e.guard)
-    ++ (codes " d" ++ (bracketed (spaced (word_text Deadline) e.deadline)
+    decimal number ++ (codes " " ++ (action_text (action_of e.action)
+    ++ (codes " g" ++ (bracketed (spaced decimal e.guard)
+    ++ (codes " d" ++ (bracketed (spaced term_text (map term_of e.deadline))
     ++ (codes " b" ++ decimal (length e.branches))))))))
 
 unfoldable pub branch_text : ℕ → Branch (List ℕ) → List ℕ

@@ -1,92 +1,131 @@
 // How the words of a list are spelled: a letter, and a number where the kind of word has one.
-ghost use Rattle.std.specs.Prelude.{◌≡◌};
-ghost use Rattle.words.specs.Words.{kind_of, payload_of};
-ghost use Rattle.lines.specs.Letters.{action_letter, action_numbered, deadline_letter, deadline_numbered, place_letter, place_numbered, lettered, word_text};
-ghost use Rattle.lines.specs.Printing.{Put};
+ghost use Rattle.std.specs.Prelude.{◌≡◌, ◌++◌, decimal};
+ghost use Rattle.lines.specs.Letters.{action_of, action_text, term_of, term_text, code_word_of, code_word_text};
+ghost use Rattle.lines.specs.Printing.{Puts};
 
-use crate::cursor::Cursor;
-use words::{kind, payload};
+use crate::line::{Line, Spell};
+use words::{Refusal, kind, payload};
 
-/// What a word stands for.
+/// What an edge does.
 #[derive(Clone, Copy)]
-pub(crate) enum Form {
-    /// A number and nothing else.
-    Plain,
-    Action,
-    /// A word of a deadline.
-    Deadline,
-    /// A word of a place's code.
-    Place,
+pub(crate) enum Action {
+    Tau,
+    Patient(u32),
+    Impatient(u32),
+    Exception(u32),
+    Break,
+    Error,
 }
 
-fn action_letter(kind: u32) -> u8
-    ensures { result ≡ action_letter kind }
-{
-    match kind {
-        0 => b't',
-        1 => b'p',
-        2 => b'i',
-        3 => b'x',
-        4 => b'b',
-        _ => b'e',
+/// A word of a deadline.
+#[derive(Clone, Copy)]
+pub(crate) enum Term {
+    Constant(bool),
+    Condition(u32),
+    And,
+    Or,
+}
+
+/// A word of a place's code.
+#[derive(Clone, Copy)]
+pub(crate) enum CodeWord {
+    Done,
+    Failed,
+    Record(u32),
+    Frame(u32),
+    /// A pair, with the length of its left part.
+    Pair(u32),
+}
+
+impl From<u32> for Action {
+    ghost from_gives = { λ word action. action ≡ action_of word };
+
+    fn from(word: u32) -> Action {
+        match kind(word) {
+            0 => Action::Tau,
+            1 => Action::Patient(payload(word)),
+            2 => Action::Impatient(payload(word)),
+            3 => Action::Exception(payload(word)),
+            4 => Action::Break,
+            _ => Action::Error,
+        }
     }
 }
 
-fn deadline_letter(kind: u32, payload: u32) -> u8
-    ensures { result ≡ deadline_letter kind payload }
-{
-    match kind {
-        0 if payload == 0 => b'F',
-        0 => b'T',
-        1 => b'c',
-        2 => b'&',
-        _ => b'|',
+impl From<u32> for Term {
+    ghost from_gives = { λ word term. term ≡ term_of word };
+
+    fn from(word: u32) -> Term {
+        match kind(word) {
+            0 => Term::Constant(payload(word) != 0),
+            1 => Term::Condition(payload(word)),
+            2 => Term::And,
+            _ => Term::Or,
+        }
     }
 }
 
-fn place_letter(kind: u32, payload: u32) -> u8
-    ensures { result ≡ place_letter kind payload }
-{
-    match kind {
-        8 if payload == 0 => b'.',
-        8 => b'!',
-        9 => b'n',
-        10 => b'/',
-        _ => b'*',
+impl From<u32> for CodeWord {
+    ghost from_gives = { λ word w. w ≡ code_word_of word };
+
+    fn from(word: u32) -> CodeWord {
+        match kind(word) {
+            8 if payload(word) == 0 => CodeWord::Done,
+            8 => CodeWord::Failed,
+            9 => CodeWord::Record(payload(word)),
+            10 => CodeWord::Frame(payload(word)),
+            _ => CodeWord::Pair(payload(word)),
+        }
     }
 }
 
-fn put_lettered(cursor: &mut Cursor, out: &mut [u8], letter: u8, numbered: bool, word: u32)
-    ensures { Put cursor.old out.old (lettered letter numbered word) cursor.new out.new }
+/// Puts a letter and a number.
+fn put_numbered(line: &mut Line<'_>, letter: &[u8], number: u32) -> Result<(), Refusal>
+    ensures { Puts line.old (letter.now ++ decimal number) result line.new }
 {
-    cursor.put(out, letter);
-    if numbered {
-        cursor.put_number(out, payload(word) as usize);
+    line.put(letter)?;
+    line.put_number(number)
+}
+
+impl Spell for Action {
+    ghost text = { action_text };
+
+    fn spell(&self, line: &mut Line<'_>) -> Result<(), Refusal> {
+        match *self {
+            Action::Tau => line.put(b"t"),
+            Action::Patient(number) => put_numbered(line, b"p", number),
+            Action::Impatient(number) => put_numbered(line, b"i", number),
+            Action::Exception(number) => put_numbered(line, b"x", number),
+            Action::Break => line.put(b"b"),
+            Action::Error => line.put(b"e"),
+        }
     }
 }
 
-/// Puts a word as its form has it.
-pub(crate) fn put_word(cursor: &mut Cursor, out: &mut [u8], form: Form, word: u32)
-    ensures { Put cursor.old out.old (word_text form word) cursor.new out.new }
-{
-    let kind = kind(word);
-    let payload = payload(word);
-    match form {
-        Form::Plain => cursor.put_number(out, word as usize),
-        Form::Action => put_lettered(
-            cursor,
-            out,
-            action_letter(kind),
-            kind == 1 || kind == 2 || kind == 3,
-            word,
-        ),
-        Form::Deadline => put_lettered(
-            cursor,
-            out,
-            deadline_letter(kind, payload),
-            kind == 1,
-            word,
-        ),
-        Form::Place => put_lettered(cursor, out, place_letter(kind, payload), kind != 8, word),
+impl Spell for Term {
+    ghost text = { term_text };
+
+    fn spell(&self, line: &mut Line<'_>) -> Result<(), Refusal> {
+        match *self {
+            Term::Constant(false) => line.put(b"F"),
+            Term::Constant(true) => line.put(b"T"),
+            Term::Condition(number) => put_numbered(line, b"c", number),
+            Term::And => line.put(b"&"),
+            Term::Or => line.put(b"|"),
+        }
+    }
+}
+
+impl Spell for CodeWord {
+    ghost text = { code_word_text };
+
+    fn spell(&self, line: &mut Line<'_>) -> Result<(), Refusal> {
+        match *self {
+            CodeWord::Done => line.put(b"."),
+            CodeWord::Failed => line.put(b"!"),
+            CodeWord::Record(number) => put_numbered(line, b"n", number),
+            CodeWord::Frame(number) => put_numbered(line, b"/", number),
+            CodeWord::Pair(number) => put_numbered(line, b"*", number),
+        }
     }
 }

@@ -1,8 +1,8 @@
 // The lines of a report on an ended list: its head, its edges and their branches, as bytes.
 #![tactic(auto)]
 
-mod cursor;
 mod letters;
+mod line;
 mod report;
 mod texts;
 

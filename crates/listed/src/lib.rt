@@ -1,7 +1,9 @@
 // Reading an ended list, from edge to edge and from branch to branch, each once.
 #![tactic(auto)]
 
-mod edges;
+mod items;
+mod reading;
 mod rows;
 
-pub use edges::{ListedBranch, ListedEdge, edge, edge_count};
+pub use items::{Items, Kind, Listed};
+pub use reading::{BranchKind, EdgeKind, ListedBranch, ListedEdge, edge, edge_count, edges};
