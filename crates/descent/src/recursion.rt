@@ -92,6 +92,7 @@ fn descends_to_itself(reader: &Reader<'_>, process: u32, table: &mut [u32]) -> b
 pub(crate) fn check_recursion(reader: &Reader<'_>, table: &mut [u32]) -> Result<(), Fault>
     ensures { recursion_check reader.now.words.now (in_reach reader.now.words.now table.old) result }
 {
+    // Kept: the test writes to the table, which a test of `expect_each` may not.
     for process in 0..reader.processes() {
         let recursive = descends_to_itself(reader, process, table);
         expect(!recursive, Refusal::Recursion, process as usize)?;

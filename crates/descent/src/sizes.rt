@@ -10,7 +10,7 @@ ghost use Rattle.descent.specs.Verdicts.{depth_check, span_check};
 use crate::reach::in_reach;
 use crate::word::{MAX_SPAN, span, word_over};
 use sheet::{Below, Reader};
-use words::{Fault, Refusal, expect};
+use words::{Fault, Refusal, expect_each};
 
 /// Gives each record its word, from the lowest record up, where those below have theirs; tells whether a word was given.
 fn grow(reader: &Reader<'_>, table: &mut [u32]) -> bool
@@ -67,11 +67,8 @@ impl Sizes<'_> {
     pub(crate) fn check_depths(&self) -> Result<(), Fault>
         ensures { depth_check self.now.reader.now.words.now (in_reach self.now.reader.now.words.now self.now.table.now) result }
     {
-        for number in 0..in_reach(self.reader, self.table) {
-            let deep = self.is_too_deep(number);
-            expect(!deep, Refusal::Depth, number as usize)?;
-        }
-        Ok(())
+        let count = in_reach(self.reader, self.table);
+        expect_each(count, Refusal::Depth, 0, |number| !self.is_too_deep(number))
     }
 
     /// The lowest behaviour whose span is too large, where none is too deep.
@@ -79,13 +76,9 @@ impl Sizes<'_> {
         requires { Clear (Deep (down_from self.now.reader.now.words.now self.now.table.now)) (in_reach self.now.reader.now.words.now self.now.table.now) }
         ensures { span_check self.now.reader.now.words.now (in_reach self.now.reader.now.words.now self.now.table.now) result }
     {
-        for number in 0..in_reach(self.reader, self.table) {
-            expect(
-                span(self.table[number as usize]) <= MAX_SPAN,
-                Refusal::Span,
-                number as usize,
-            )?;
-        }
-        Ok(())
+        let count = in_reach(self.reader, self.table);
+        expect_each(count, Refusal::Span, 0, |number| {
+            span(self.table[number as usize]) <= MAX_SPAN
+        })
     }
 }
