@@ -8,6 +8,5 @@ pub mod Right
 pub mod Law
 pub mod Facts
 pub mod Sweeping
-pub mod FiveWords
 pub mod PlaceRows
 pub mod Below

@@ -1,9 +1,9 @@
 // The header of a drawing, and how many words a drawing has.
-ghost use Rattle.std.specs.Prelude.{◌≡◌, ◌<◌};
+ghost use Rattle.std.specs.Prelude.{◌≡◌, ◌+◌, ◌<◌};
 ghost use Rattle.drawing.specs.Checks.{least, most, header_right, header_check, count_check};
 
 use crate::table::{HEADER, ROW, Table};
-use words::{Fault, Refusal, expect, kind, payload};
+use words::{Fault, HeaderWord, Refusal, expect, expect_each};
 
 const MOST_PLACES: u32 = 1024;
 
@@ -11,24 +11,27 @@ const MOST_ROWS: u32 = 4096;
 
 const MOST_ACTIONS: u32 = 64;
 
-/// The kind of the first header word; those of the others follow.
-const FIRST_KIND: usize = 6;
-
-/// The least payload of a header word: there is a place to start at.
-fn lower_bound(i: usize) -> u32
-    ensures { result ≡ least i }
-{
-    if i == 0 { 1 } else { 0 }
-}
-
-/// The greatest payload of a header word.
-fn upper_bound(i: usize) -> u32
-    ensures { result ≡ most i }
+/// What each word of the header must be: there is a place to start at.
+fn header_word(i: usize) -> HeaderWord
+    requires { i < 3 }
+    ensures { result ≡ record { kind = 6 + i; least = least i; most = most i } }
 {
     match i {
-        0 => MOST_PLACES,
-        1 => MOST_ROWS,
-        _ => MOST_ACTIONS,
+        0 => HeaderWord {
+            kind: 6,
+            least: 1,
+            most: MOST_PLACES,
+        },
+        1 => HeaderWord {
+            kind: 7,
+            least: 0,
+            most: MOST_ROWS,
+        },
+        _ => HeaderWord {
+            kind: 8,
+            least: 0,
+            most: MOST_ACTIONS,
+        },
     }
 }
 
@@ -37,22 +40,19 @@ fn header_right(table: &Table<'_>, i: usize) -> bool
     requires { i < 3 }
     ensures { result ≡ header_right table.now.words.now i }
 {
-    let word = table.word(i);
-    let value = payload(word);
-    i < table.length()
-        && kind(word) as usize == FIRST_KIND + i
-        && lower_bound(i) <= value
-        && value <= upper_bound(i)
+    i < table.length() && header_word(i).admits(table.word(i))
 }
 
 /// The lowest header word that is missing or wrong.
 pub(crate) fn check_header(table: &Table<'_>) -> Result<(), Fault>
     ensures { header_check table.now.words.now result }
 {
-    for i in 0..HEADER {
-        expect(header_right(table, i), Refusal::DrawingHeader, i)?;
-    }
-    Ok(())
+    expect_each(
+        3,
+        Refusal::DrawingHeader,
+        0,
+        |i| header_right(table, i as usize),
+    )
 }
 
 /// As many words as the header says; else the first position that is missing or too many.

@@ -1,18 +1,11 @@
 // The rows of a drawing, word by word.
-ghost use Rattle.std.specs.Prelude.{◌≡◌, ◌+◌, ◌<◌, false};
-ghost use Rattle.words.specs.Checks.{lowest};
-ghost use Rattle.words.specs.declared.Refusal.TheVariants.{DrawingRow};
-ghost use Rattle.drawing.specs.Layout.{row_count, position};
-ghost use Rattle.drawing.specs.Checks.{from_right, label_right, condition_right, deadline_right, field_right, row_check};
+ghost use Rattle.std.specs.Prelude.{◌≡◌};
+ghost use Rattle.drawing.specs.Checks.{from_before, from_right, label_right, condition_right, deadline_right, field_right, row_right, row_check};
 
 use crate::alphabet::in_alphabet;
 use crate::places::{is_drawn, is_place_word};
 use crate::table::{HEADER, ROW, Row, Table};
-use words::{Fault, NONE, Refusal, expect, kind, payload};
-
-const TAU: u32 = 0;
-
-const EXCEPTION_KIND: u32 = 3;
+use words::{Fault, NONE, Refusal, TAU, expect_each, is_exception, kind, payload};
 
 /// The kind of a plain number, and of a deadline that is a constant.
 const NUMBER_KIND: u32 = 0;
@@ -31,7 +24,7 @@ fn from_right(table: &Table<'_>, last: u32, word: u32) -> bool
 fn label_right(table: &Table<'_>, word: u32) -> bool
     ensures { result ≡ label_right table.now.words.now word }
 {
-    word == TAU || kind(word) == EXCEPTION_KIND || in_alphabet(table, word)
+    word == TAU || is_exception(word) || in_alphabet(table, word)
 }
 
 /// Whether a word is a condition or none.
@@ -61,31 +54,32 @@ fn field_right(table: &Table<'_>, last: u32, row: Row, j: usize) -> bool
     }
 }
 
-/// The lowest word of a row that is wrong.
-fn check_row(table: &Table<'_>, number: usize, last: u32, row: Row) -> Result<(), Fault>
-    requires { number < row_count table.now.words.now }
-    ensures { lowest DrawingRow (λ j. position table.now.words.now number + j) 5 (λ j. field_right table.now.words.now last row j ≡ false) result }
+/// The place at which the row before a row begins; 0 before the first.
+fn from_before(table: &Table<'_>, number: usize) -> u32
+    ensures { result ≡ from_before table.now.words.now number }
 {
-    let start = HEADER + table.actions() + ROW * number;
-    for j in 0..ROW {
-        expect(
-            field_right(table, last, row, j),
-            Refusal::DrawingRow,
-            start + j,
-        )?;
+    if number == 0 {
+        0
+    } else {
+        table.row(number - 1).from
     }
-    Ok(())
+}
+
+/// Whether word j of a row is right.
+#[tactic(auto, unfolding(crate::specs::Checks::row_right))]
+fn row_right(table: &Table<'_>, number: usize, j: usize) -> bool
+    ensures { result ≡ row_right table.now.words.now number j }
+{
+    field_right(table, from_before(table, number), table.row(number), j)
 }
 
 /// The lowest word of all rows that is wrong.
 pub(crate) fn check_rows(table: &Table<'_>) -> Result<(), Fault>
     ensures { row_check table.now.words.now result }
 {
-    let mut last = 0;
-    for number in 0..table.rows() {
-        let row = table.row(number);
-        check_row(table, number, last, row)?;
-        last = row.from;
-    }
-    Ok(())
+    let count = ROW * table.rows();
+    let first = HEADER + table.actions();
+    expect_each(count as u32, Refusal::DrawingRow, first, |word| {
+        row_right(table, word as usize / ROW, word as usize % ROW)
+    })
 }
