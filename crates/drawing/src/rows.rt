@@ -12,6 +12,7 @@ use words::{Fault, NONE, Refusal, expect, kind, payload};
 
 const TAU: u32 = 0;
 
+// Kept: the format has kinds as numbers, and a number means one thing in one field and another in the next, so no one enum names them.
 const EXCEPTION_KIND: u32 = 3;
 
 /// The kind of a plain number, and of a deadline that is a constant.
