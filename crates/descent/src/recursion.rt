@@ -10,6 +10,7 @@ use crate::reach::in_reach;
 use sheet::{Below, Reader, Step};
 use words::{Fault, Refusal, expect};
 
+// Kept: a mark is a word of the caller's table, since nothing is allocated here.
 const MARK: u32 = 1;
 
 /// Marks a record that has a word in the table; tells whether it was not marked before.

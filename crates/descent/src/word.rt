@@ -13,6 +13,7 @@ const MAX_DEPTH: u32 = 64;
 pub(crate) const MAX_SPAN: u32 = 4_096;
 
 /// A word is its depth times this number, and its span.
+// Kept: the format of the table has one word for each record, so both share it.
 const DEPTH: u32 = 65_536;
 
 /// The depth that a word holds.

@@ -12,6 +12,7 @@ pub(crate) const DONE: u32 = 0x8000_0000;
 pub(crate) const START: u32 = 0x9000_0000;
 
 /// The kind of a word that names a drawn place.
+// Kept: a number, as the format has it; it is compared once.
 const PLACE_KIND: u32 = 9;
 
 /// Whether a word names a drawn place.

@@ -7,6 +7,8 @@ use crate::places::{is_drawn, is_place_word};
 use crate::table::{HEADER, ROW, Row, Table};
 use words::{Fault, NONE, Refusal, TAU, expect_each, is_exception, kind, payload};
 
+// Kept: a kind means one thing in one field and another in the next, so no one enum names the kinds of words.
+
 /// The kind of a plain number, and of a deadline that is a constant.
 const NUMBER_KIND: u32 = 0;
 

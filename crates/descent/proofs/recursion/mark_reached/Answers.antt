@@ -20,13 +20,6 @@ loop-init c =
       λ h. subst (λ t. Marked t b) (sym is) (marking_marks zeros b (omega (arith, ap length is, length-marking zeros b))),
     )
 
-pub loop-preserved : goal.loop-preserved
-loop-preserved c =
-    let ws = c.args.reader.now.words.now in
-    let b : ℕ = body ws c.args.process in
-    let turn = reach_by_length (λ n. Spread (down_in ws n) c.loop.table c.spread.new.table c.spread.result) ws c.loop.table c.args.table.now (omega arith) c.spread.ensures.spread in
-    (turn.sound b c.loop.invariant.0, λ h. turn.kept b (c.loop.invariant.1 (omega arith)))
-
 pub returns : goal.returns
 returns c =
     let ws = c.args.reader.now.words.now in

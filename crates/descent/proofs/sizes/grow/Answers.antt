@@ -37,10 +37,3 @@ loop-number-preserved c =
           subst (λ u. Grown down (i + 1) before u c.if-table-number-eq0.changed) (sym w.table-is)
           (subst (λ b. Grown down (i + 1) before t b) (sym w.changed-is) (grown_same down i before t c.loop-number.changed c.loop-number.invariant (λ z. absurd (omega (arith, w)))))
     ]
-
-pub returns : goal.returns
-returns c =
-    let ws = c.args.reader.now.words.now in
-    let before = c.args.table.now in
-    let all : c.loop-number.number ≡ in_reach ws before = omega arith in
-    subst (λ n. Grown (down_from ws before) n before c.loop-number.table c.loop-number.changed) all c.loop-number.invariant

@@ -1,11 +1,7 @@
-use Rattle.std.proofs.Common.{Ok, Err, vec_items, refl, ◌∙◌, subst}
+use Rattle.std.proofs.Common.{Err, vec_items, refl, ◌∙◌, subst}
 use Rattle.drawing.specs.Checks.{verdict}
 use Rattle.drawing.specs.Facts.{single_verdict}
 use Rattle.drawing.proofs.loader.draw.Goals as goal
-
-pub at_start-requires : goal.at_start-requires
-at_start-requires c =
-    subst (λ ws. verdict ws (Ok tt)) (c.new.ensures ∙ c.deref.ensures.value) c.in-Ok.ensures
 
 pub returns-in-Ok : goal.returns-in-Ok
 returns-in-Ok c = record { drawn = c.at_start.ensures; single = single_verdict (vec_items c.args.words) }
