@@ -8,13 +8,15 @@ ghost use Rattle.listed.specs.Standing.{standing};
 ghost use Rattle.printout.specs.declared.Unprinted.TheVariants.{LongLine, NoMemory};
 ghost use Rattle.printout.specs.Printouts.{rows, each_fits, branch_line, branch_fits, edge_lines, edge_fits, printout_of, printable, Puts};
 
+mod failure;
 mod text;
 
+pub use failure::Failure;
 use lines::{head_line, listed_branch_line, listed_edge_line};
 use listed::{BranchKind, EdgeKind, Items, Kind, Listed, ListedBranch, ListedEdge, edges};
 use lists::List;
 use std::alloc::AllocError;
-pub use text::{part_text, refused_line};
+pub use text::{explain, part_text, refused_line};
 use words::Refusal;
 
 /// Why a list was not printed.
