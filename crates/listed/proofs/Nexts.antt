@@ -3,7 +3,7 @@ use Rattle.std.proofs.Common.{◌≡◌, [], drop, Some, None, Option, refl, Mat
 use Rattle.lists.specs.Reading.{behind_edge, behind_branch}
 use Rattle.listed.specs.declared.reading.EdgeKind.{EdgeKind}
 use Rattle.listed.specs.declared.reading.BranchKind.{BranchKind}
-use Rattle.listed.specs.declared.items.Listed.{Listed}
+use Rattle.listed.specs.declared.item.Listed.{Listed}
 use Rattle.listed.specs.Listed.{Next, edges_on, branches_on}
 
 pub next_edge : (x : Listed EdgeKind) (r : Option (Listed EdgeKind)) → Next behind_edge x r

@@ -6,6 +6,10 @@ use Rattle.words.specs.declared.Refusal.{Refusal}
 use Rattle.listed.specs.Listed.{Missing}
 use Rattle.listed.specs.Standing.{standing}
 
+pub length_standing : (behind : List ℕ → List ℕ) (n : ℕ) (ws : List ℕ) → length (standing behind n ws) ≡ n
+length_standing behind zero ws = refl
+length_standing behind (suc n) ws = ap suc (length_standing behind n (behind ws))
+
 module _ {X : Type 0} (items : ℕ → List ℕ → List X) (item : List ℕ → X) (behind : List ℕ → List ℕ)
     (none : (ws : List ℕ) → items zero ws ≡ []) (more : (n : ℕ) (ws : List ℕ) → items (suc n) ws ≡ item ws ∷ items n (behind ws)) where
   pub count_items : (n : ℕ) (ws : List ℕ) → length (items n ws) ≡ n

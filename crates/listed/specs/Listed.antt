@@ -6,7 +6,7 @@ use Rattle.lists.specs.Reading.{edge_in, edges_from, branch_in, branches_in}
 use Rattle.listed.specs.declared.reading.EdgeKind.{EdgeKind}
 use Rattle.listed.specs.declared.reading.BranchKind.{BranchKind}
 use Rattle.listed.specs.declared.items.Items.{Items}
-use Rattle.listed.specs.declared.items.Listed.{Listed}
+use Rattle.listed.specs.declared.item.Listed.{Listed}
 
 -- the edge itself, and it with all that follow in the list
 abbrev pub edge_at : Listed EdgeKind → Edge (List ℕ)

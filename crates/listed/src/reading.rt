@@ -4,7 +4,8 @@ ghost use Rattle.words.specs.declared.Refusal.TheVariants.{NoEdge, NoBranch};
 ghost use Rattle.lists.specs.Reading.{behind_edge, behind_branch, edges_in, pairs_in};
 ghost use Rattle.listed.specs.Listed.{edge_at, edges_on, edges_left, branch_at, branches_on, branches_left, Missing};
 
-use crate::items::{Items, Kind, Listed};
+use crate::item::{Kind, Listed};
+use crate::items::Items;
 use crate::rows;
 use lists::List;
 use words::{Refusal, word_at};

@@ -1,42 +1,34 @@
 -- Lines put behind a text, one at a time.
-use Rattle.std.proofs.Common.{◌≡◌, ℕ, zero, suc, ◌-◌, ◌≤◌, Bool, true, false, ◌&&◌, leb, List, [], ◌∷◌, ◌++◌, length, take, drop, replicate, Some, None, Ok, Err, Option, Result, sym, refl, ap, ◌∙◌, append_assoc, arith, MatchOption, MatchResult}
+use Rattle.std.proofs.Common.{◌≡◌, ℕ, zero, suc, ◌-◌, Bool, true, false, ◌&&◌, leb, List, [], ◌∷◌, ◌++◌, length, take, replicate, Ok, Err, Result, sym, refl, ap, ◌∙◌, append_assoc, arith, subst}
 use Rattle.std.proofs.lemmas.List.{take_at}
 use Rattle.words.specs.declared.Refusal.{Refusal}
 use Rattle.words.specs.declared.Refusal.TheVariants.{LineTooLong}
 use Rattle.lines.specs.Lines.{answered, out_after}
-use Rattle.std.specs.Result.{result_ok}
-use Rattle.lists.specs.Reading.{branches_in, behind_branch, edges_from, behind_edge}
-use Rattle.listed.specs.Listed.{Missing}
+use Rattle.listed.specs.Standing.{standing}
 use Rattle.printout.specs.declared.Unprinted.{Unprinted}
 use Rattle.printout.specs.declared.Unprinted.TheVariants.{LongLine, NoMemory}
-use Rattle.printout.specs.Printouts.{fits as line_fits, Puts}
+use Rattle.printout.specs.Printouts.{fits as line_fits, rows, each_fits, Puts}
 
--- what is still to be read by a reader that stands at an item, or at none; on: the item and all that follow
-abbrev pub left : {R X : Type 0} → (R → List X) → Option R → List X
-left on None = []
-left on (Some x) = on x
+module _ {X : Type 0} (items : ℕ → List ℕ → List X) (item : List ℕ → X) (behind : List ℕ → List ℕ)
+    (none : (ws : List ℕ) → items zero ws ≡ []) (more : (n : ℕ) (ws : List ℕ) → items (suc n) ws ≡ item ws ∷ items n (behind ws)) where
+  rows_of : (text : ℕ → X → List ℕ) (k n : ℕ) (ws : List ℕ) → rows (λ m p. text m (item p.1)) k (standing behind n ws) ≡ rows text k (items n ws)
+  rows_of text k zero ws = sym (ap (rows text k) (none ws))
+  rows_of text k (suc n) ws = ap (λ (t : List ℕ). text k (item ws) ++ t) (rows_of text (suc k) n (behind ws)) ∙ sym (ap (rows text k) (more n ws))
 
-no_items : {X : Type 0} (xs : List X) → length xs ≤ 0 → xs ≡ []
-no_items [] h = refl
-no_items (x ∷ xs) h = absurd (omega arith)
+  fits_of : (fit : ℕ → X → Bool) (k n : ℕ) (ws : List ℕ) → each_fits (λ m p. fit m (item p.1)) k (standing behind n ws) ≡ each_fits fit k (items n ws)
+  fits_of fit k zero ws = sym (ap (each_fits fit k) (none ws))
+  fits_of fit k (suc n) ws = ap (λ (t : Bool). fit k (item ws) && t) (fits_of fit (suc k) n (behind ws)) ∙ sym (ap (each_fits fit k) (more n ws))
 
-pub first-left : {R X : Type 0} (on : R → List X) (xs : List X) (refusal : Refusal) (r : Result R Refusal) (o : Option R)
-    → o ≡ result_ok r → MatchResult r (λ x. on x ≡ drop 0 xs) (Missing refusal xs 0) → left on o ≡ xs
-first-left on xs refusal (Ok x) o o_is told = ap (left on) o_is ∙ told
-first-left on xs refusal (Err e) o o_is told = ap (left on) o_is ∙ sym (no_items xs told.past)
-
-pub next_left : {R X : Type 0} (on : R → List X) (later : List X) (o : Option R)
-    → MatchOption o (later ≡ []) (λ x. on x ≡ later) → left on o ≡ later
-next_left on later None told = sym told
-next_left on later (Some x) told = told
-
-pub length_branches : (n : ℕ) (ws : List ℕ) → length (branches_in n ws) ≡ n
-length_branches zero ws = refl
-length_branches (suc n) ws = ap suc (length_branches n (behind_branch ws))
-
-pub length_edges : (n : ℕ) (ws : List ℕ) → length (edges_from n ws) ≡ n
-length_edges zero ws = refl
-length_edges (suc n) ws = ap suc (length_edges n (behind_edge ws))
+  -- what was put of items by where they stand was put of the items
+  pub each_put : (text : ℕ → X → List ℕ) (fit : ℕ → X → Bool) (n : ℕ) (ws : List ℕ) (xs : List X) (before after : List ℕ) (r : Result (Unit {0}) Unprinted)
+      → items n ws ≡ xs
+      → Puts (rows (λ m p. text m (item p.1)) 0 (standing behind n ws)) (each_fits (λ m p. fit m (item p.1)) 0 (standing behind n ws)) before after r
+      → Puts (rows text 0 xs) (each_fits fit 0 xs) before after r
+  each_put text fit n ws xs before after r is put =
+      let shown = rows_of text 0 n ws ∙ ap (rows text 0) is in
+      let fitting = fits_of fit 0 n ws ∙ ap (each_fits fit 0) is in
+      subst (λ f. Puts (rows text 0 xs) f before after r) fitting
+      (subst (λ t. Puts t (each_fits (λ m p. fit m (item p.1)) 0 (standing behind n ws)) before after r) shown put)
 
 -- a line that was answered fits, and stands at the front of its buffer
 pub line_stands : (text out out' : List ℕ) (count : ℕ)

@@ -1,2 +1,3 @@
+pub mod Failures
 pub mod Printouts
 pub mod Texts

@@ -1,15 +1,13 @@
 -- What is printed of a part where it stands: the lines of its listing, or one line that says why there is none.
 --
 -- room: how many words the list may take. line_room: how many bytes a line may have.
-use Rattle.std.specs.Prelude.{◌≡◌, ℕ, cond, List, ◌++◌, length, codes, decimal, ◌==◌, nat_le}
+use Rattle.std.specs.Prelude.{ℕ, cond, List, ◌++◌, length, codes, decimal, ◌==◌, nat_le}
 use Rattle.words.specs.Edges.{Edge}
 use Rattle.words.specs.Refusals.{number_of}
 use Rattle.words.specs.declared.Refusal.{Refusal}
 use Rattle.words.specs.declared.Refusal.TheVariants.{Oversized, ListTooLong, LineTooLong}
 use Rattle.part.specs.Automata.{Meaning, edges_here}
 use Rattle.lists.specs.Format.{list_words}
-use Rattle.printout.specs.declared.Unprinted.{Unprinted}
-use Rattle.printout.specs.declared.Unprinted.TheVariants.{LongLine, NoMemory}
 use Rattle.printout.specs.Printouts.{printable, printout_of}
 
 abbrev pub numbered_line : ℕ → ℕ → List ℕ
@@ -17,11 +15,6 @@ numbered_line number place = codes "refused " ++ (decimal number ++ (codes " at 
 
 abbrev pub refused_line : Refusal → ℕ → List ℕ
 refused_line refusal place = numbered_line (number_of refusal) place
-
--- the line that says why a list was not printed; for want of memory there is none
-abbrev pub Explains : Unprinted → List ℕ → Type 0
-Explains LongLine text = text ≡ refused_line LineTooLong 0
-Explains NoMemory text = ⊥
 
 abbrev pub line_room : ℕ
 line_room = 65536

@@ -1,19 +1,22 @@
 // The printout of an ended list: all its lines, one after the other.
 #![tactic(auto)]
 
-ghost use Rattle.std.specs.Prelude.{◌≡◌, ◌≤◌, ◌++◌, length, take, codes, OnOk};
-ghost use Rattle.lists.specs.Reading.{edges_in};
+ghost use Rattle.std.specs.Prelude.{◌≡◌, ℕ, Bool, List as Row, ◌++◌, length, codes, OnOk};
+ghost use Rattle.lists.specs.Reading.{edge_in, edges_in, branch_in};
 ghost use Rattle.listed.specs.Listed.{edge_at, branch_at};
+ghost use Rattle.listed.specs.Standing.{standing};
 ghost use Rattle.printout.specs.declared.Unprinted.TheVariants.{LongLine, NoMemory};
 ghost use Rattle.printout.specs.Printouts.{rows, each_fits, branch_line, branch_fits, edge_lines, edge_fits, printout_of, printable, Puts};
 
+mod failure;
 mod text;
 
+pub use failure::Failure;
 use lines::{head_line, listed_branch_line, listed_edge_line};
-use listed::{ListedBranch, ListedEdge, edge};
+use listed::{BranchKind, EdgeKind, Items, Kind, Listed, ListedBranch, ListedEdge, edges};
 use lists::List;
 use std::alloc::AllocError;
-pub use text::{part_text, refused_line};
+pub use text::{explain, part_text, refused_line};
 use words::Refusal;
 
 /// Why a list was not printed.
@@ -40,70 +43,85 @@ impl From<Refusal> for Unprinted {
     }
 }
 
-/// Puts a line of some bytes, and a newline, behind a text.
-fn put_line(text: &mut Vec<u8>, line: &[u8], count: usize) -> Result<(), AllocError>
-    requires { count ≤ length line.now }
-    ensures { OnOk result (text.new.items ≡ text.old.items ++ (take count line.now ++ codes "\n")) }
+/// Puts a line, and a newline, behind a text.
+fn put_line(text: &mut Vec<u8>, line: &[u8]) -> Result<(), AllocError>
+    ensures { OnOk result (text.new.items ≡ text.old.items ++ (line.now ++ codes "\n")) }
 {
-    text.extend_from_slice(&line[0..count])?;
+    text.extend_from_slice(line)?;
     text.push(b'\n')?;
     Ok(())
 }
 
-/// Puts the line of a branch behind a text.
-fn put_branch(
-    text: &mut Vec<u8>,
-    branch: ListedBranch<'_>,
-    number: usize,
-    line: &mut [u8],
-) -> Result<(), Unprinted>
-    ensures { Puts (branch_line number (branch_at branch.entry)) (branch_fits (length line.old) number (branch_at branch.entry)) text.old.items text.new.items result }
-{
-    let count = listed_branch_line(branch, number, line)?;
-    put_line(text, line, count)?;
-    Ok(())
+/// A kind of items of a list that have lines in its printout.
+// Kept: the text and the buffer for lines go beside each other, since lending two `&mut` fields of one struct at once has no proof rule.
+trait Printed: Kind {
+    // What stands in the printout for an item, by its number and its words, and whether its lines fit a buffer.
+    ghost lines: { ℕ → Row ℕ → Row ℕ };
+
+    ghost fits: { ℕ → ℕ → Row ℕ → Bool };
+
+    /// Puts the lines of an item behind a text.
+    fn put(
+        item: Listed<'_, Self>,
+        number: usize,
+        text: &mut Vec<u8>,
+        line: &mut [u8],
+    ) -> Result<(), Unprinted>
+    where
+        Self: Sized,
+        ensures { Puts (lines number item.entry.words.now) (fits (length line.old) number item.entry.words.now) text.old.items text.new.items result };
 }
 
-/// Puts the lines of an edge's branches behind a text.
-fn put_branches(text: &mut Vec<u8>, edge: ListedEdge<'_>, line: &mut [u8]) -> Result<(), Unprinted>
-    ensures { Puts (rows branch_line 0 (edge_at edge.entry).branches) (each_fits (branch_fits (length line.old)) 0 (edge_at edge.entry).branches) text.old.items text.new.items result }
+/// Puts the lines of items behind a text, one after the other.
+fn put_each<K: Printed>(
+    items: Items<'_, K>,
+    text: &mut Vec<u8>,
+    line: &mut [u8],
+) -> Result<(), Unprinted>
+    ensures { Puts (rows (λ n p. K.lines n p.1) 0 (standing K.after items.entry.left items.entry.words.now)) (each_fits (λ n p. K.fits (length line.old) n p.1) 0 (standing K.after items.entry.left items.entry.words.now)) text.old.items text.new.items result }
 {
-    let mut next = edge.branch(0).ok();
-    let mut number = 0;
-    while let Some(branch) = next {
-        put_branch(text, branch, number, line)?;
-        next = branch.next();
-        number += 1;
+    for (number, item) in items.enumerate() {
+        K::put(item, number, text, line)?;
     }
     Ok(())
 }
 
-/// Puts the line of an edge, and those of its branches, behind a text.
-fn put_edge(
-    text: &mut Vec<u8>,
-    edge: ListedEdge<'_>,
-    number: usize,
-    line: &mut [u8],
-) -> Result<(), Unprinted>
-    ensures { Puts (edge_lines number (edge_at edge.entry)) (edge_fits (length line.old) number (edge_at edge.entry)) text.old.items text.new.items result }
-{
-    let count = listed_edge_line(edge, number, line)?;
-    put_line(text, line, count)?;
-    put_branches(text, edge, line)
+impl Printed for BranchKind {
+    ghost lines = { λ n ws. branch_line n (branch_in ws) };
+
+    ghost fits = { λ room n ws. branch_fits room n (branch_in ws) };
+
+    fn put(
+        branch: ListedBranch<'_>,
+        number: usize,
+        text: &mut Vec<u8>,
+        line: &mut [u8],
+    ) -> Result<(), Unprinted>
+        ensures { Puts (branch_line number (branch_at branch.entry)) (branch_fits (length line.old) number (branch_at branch.entry)) text.old.items text.new.items result }
+    {
+        let count = listed_branch_line(branch, number, line)?;
+        put_line(text, &line[..count])?;
+        Ok(())
+    }
 }
 
-/// Puts the lines of all edges of a list behind a text.
-fn put_edges(text: &mut Vec<u8>, list: List<'_>, line: &mut [u8]) -> Result<(), Unprinted>
-    ensures { Puts (rows edge_lines 0 (edges_in list.entry.words.now)) (each_fits (edge_fits (length line.old)) 0 (edges_in list.entry.words.now)) text.old.items text.new.items result }
-{
-    let mut next = edge(list, 0).ok();
-    let mut number = 0;
-    while let Some(found) = next {
-        put_edge(text, found, number, line)?;
-        next = found.next();
-        number += 1;
+impl Printed for EdgeKind {
+    ghost lines = { λ n ws. edge_lines n (edge_in ws) };
+
+    ghost fits = { λ room n ws. edge_fits room n (edge_in ws) };
+
+    fn put(
+        edge: ListedEdge<'_>,
+        number: usize,
+        text: &mut Vec<u8>,
+        line: &mut [u8],
+    ) -> Result<(), Unprinted>
+        ensures { Puts (edge_lines number (edge_at edge.entry)) (edge_fits (length line.old) number (edge_at edge.entry)) text.old.items text.new.items result }
+    {
+        let count = listed_edge_line(edge, number, line)?;
+        put_line(text, &line[..count])?;
+        put_each(edge.branches(), text, line)
     }
-    Ok(())
 }
 
 /// Puts the printout of an ended list behind a text; lines are made in a buffer that is lent.
@@ -111,6 +129,6 @@ pub fn put_list(text: &mut Vec<u8>, list: List<'_>, line: &mut [u8]) -> Result<(
     ensures { Puts (printout_of (edges_in list.entry.words.now)) (printable (length line.old) (edges_in list.entry.words.now)) text.old.items text.new.items result }
 {
     let count = head_line(list, line)?;
-    put_line(text, line, count)?;
-    put_edges(text, list, line)
+    put_line(text, &line[..count])?;
+    put_each(edges(list), text, line)
 }

@@ -1,9 +1,11 @@
 // What is printed of a part: its listing's lines, or the line of a refusal.
 ghost use Rattle.std.specs.Prelude.{◌≡◌, IfOk, string_bytes};
 ghost use Rattle.lists.specs.Reading.{edges_in};
-ghost use Rattle.printout.specs.Texts.{numbered_line, refused_line, Explains, list_text, text_of};
+ghost use Rattle.printout.specs.Failures.{Explains, Shown};
+ghost use Rattle.printout.specs.Texts.{numbered_line, refused_line, list_text, text_of};
 
-use crate::{Unprinted, put_list};
+use crate::failure::Failure;
+use crate::put_list;
 use lists::{List, list};
 use part::Part;
 use std::alloc::{AllocError, Global};
@@ -26,35 +28,41 @@ pub fn refused_line(heap: Global, refusal: Refusal, place: usize) -> Result<Vec<
     Ok(text.into_bytes())
 }
 
-/// Why a list was not printed, as a line; want of memory has none.
-fn explain(heap: Global, why: Unprinted) -> Result<Vec<u8>, AllocError>
+/// Why there is no other text, as a line; want of memory has none.
+pub fn explain(heap: Global, why: Failure) -> Result<Vec<u8>, AllocError>
     ensures { IfOk result (λ v. Explains why v.items) }
 {
     match why {
-        Unprinted::LongLine => refused_line(heap, Refusal::LineTooLong, 0),
-        Unprinted::NoMemory => Err(AllocError),
+        Failure::Faulty(fault) => refused_line(heap, fault.refusal, fault.place),
+        Failure::NoMemory => Err(AllocError),
     }
 }
 
 /// The lines of an ended list.
-fn list_text(heap: Global, list: List<'_>) -> Result<Vec<u8>, AllocError>
-    ensures { IfOk result (λ v. v.items ≡ list_text (edges_in list.entry.words.now)) }
+fn list_text(heap: Global, list: List<'_>) -> Result<Vec<u8>, Failure>
+    ensures { Shown (λ v. v.items) (list_text (edges_in list.entry.words.now)) result }
 {
     let mut text = Vec::new(heap);
     let mut line = vec![in heap; 0; LINE_ROOM]?;
-    match put_list(&mut text, list, &mut line) {
-        Ok(()) => Ok(text),
-        Err(why) => explain(heap, why),
-    }
+    put_list(&mut text, list, &mut line)?;
+    Ok(text)
+}
+
+/// The lines of a part's listing.
+fn listing_text<P: Part>(heap: Global, part: &P, room: usize) -> Result<Vec<u8>, Failure>
+    ensures { Shown (λ v. v.items) (text_of (P.Part.meaning part.now) room) result }
+{
+    let mut words = vec![in heap; 0; room]?;
+    let counts = list(part, &mut words)?;
+    list_text(heap, counts.read(&words))
 }
 
 /// What is printed of a part where it stands, if its list may take so many words.
 pub fn part_text<P: Part>(heap: Global, part: &P, room: usize) -> Result<Vec<u8>, AllocError>
     ensures { IfOk result (λ v. v.items ≡ text_of (P.Part.meaning part.now) room) }
 {
-    let mut words = vec![in heap; 0; room]?;
-    match list(part, &mut words) {
-        Ok(counts) => list_text(heap, counts.read(&words)),
-        Err(why) => refused_line(heap, why.refusal(), 0),
+    match listing_text(heap, part, room) {
+        Ok(text) => Ok(text),
+        Err(why) => explain(heap, why),
     }
 }

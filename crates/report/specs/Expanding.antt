@@ -11,8 +11,6 @@ use Rattle.descent.specs.Sizes.{Filled}
 use Rattle.part.specs.Automata.{Meaning}
 use Rattle.behaviour.specs.Automata.{automaton_of}
 use Rattle.printout.specs.Texts.{refused_line, text_of}
-use Rattle.report.specs.declared.opening.Unopened.{Unopened}
-use Rattle.report.specs.declared.opening.Unopened.TheVariants.{Faulty, NoMemory}
 use Rattle.report.specs.Opening.{sheet_check}
 
 abbrev pub list_room : ℕ
@@ -25,8 +23,3 @@ pub data Expanded (bytes text : List ℕ) : Type 0 where
   refused : (f : Fault) → sheet_check bytes (Err f) → text ≡ refused_line f.refusal f.place → Expanded bytes text
   listed : (t : List ℕ) → sheet_check bytes (Ok tt) → Filled (down_in (words_of bytes) (records (words_of bytes))) t
       → text ≡ text_of (at_start (words_of bytes) t) list_room → Expanded bytes text
-
--- the line that says why no model was made; for want of memory there is none
-abbrev pub Explains : Unopened → List ℕ → Type 0
-Explains (Faulty f) text = text ≡ refused_line f.refusal f.place
-Explains NoMemory text = ⊥

@@ -10,8 +10,8 @@ use Rattle.descent.specs.Records.{down_in}
 use Rattle.descent.specs.Sizes.{Filled}
 use Rattle.model.specs.declared.Model.{Model}
 use Rattle.model.specs.Verdict.{verdict}
-use Rattle.report.specs.declared.opening.Unopened.{Unopened}
-use Rattle.report.specs.declared.opening.Unopened.TheVariants.{Faulty, NoMemory}
+use Rattle.printout.specs.declared.failure.Failure.{Failure}
+use Rattle.printout.specs.declared.failure.Failure.TheVariants.{Faulty, NoMemory}
 
 abbrev pub room_for : List ℕ → ℕ
 room_for ws = min (records ws) 2048
@@ -24,7 +24,7 @@ pub record Opened (bytes : List ℕ) (m : Model) : Type 0 where
   pub words : vec_items m.words ≡ words_of bytes
   pub table : Filled (down_in (words_of bytes) (records (words_of bytes))) (vec_items m.table)
 
-abbrev pub Opening : List ℕ → Result Model Unopened → Type 0
+abbrev pub Opening : List ℕ → Result Model Failure → Type 0
 Opening bytes (Ok m) = Opened bytes m
 Opening bytes (Err (Faulty f)) = sheet_check bytes (Err f)
 Opening bytes (Err NoMemory) = Unit {0}

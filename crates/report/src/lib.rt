@@ -3,28 +3,18 @@
 
 ghost use Rattle.std.specs.Prelude.{◌≡◌, IfOk};
 ghost use Rattle.printout.specs.Texts.{text_of};
-ghost use Rattle.report.specs.Expanding.{list_room, at_start, Expanded, Explains};
+ghost use Rattle.report.specs.Expanding.{list_room, at_start, Expanded};
 
 mod opening;
 
 use behaviour::Behaviour;
 use model::Model;
-pub use opening::{Unopened, open_sheet};
-use printout::{part_text, refused_line};
+pub use opening::open_sheet;
+use printout::{explain, part_text};
 use std::alloc::{AllocError, Global};
 
 /// How many words the list of edges may take.
 const LIST_ROOM: usize = 4096;
-
-/// Why no model could be made, as a line; want of memory has none.
-fn explain(heap: Global, why: Unopened) -> Result<Vec<u8>, AllocError>
-    ensures { IfOk result (λ v. Explains why v.items) }
-{
-    match why {
-        Unopened::Faulty(fault) => refused_line(heap, fault.refusal, fault.place),
-        Unopened::NoMemory => Err(AllocError),
-    }
-}
 
 /// What is printed of a model where it starts.
 fn start_text(heap: Global, model: Model) -> Result<Vec<u8>, AllocError>

@@ -1,9 +1,10 @@
 use Rattle.std.proofs.Common.{◌≡◌, ℕ, List, Err, vec_items, ap, ◌∙◌}
 use Rattle.std.proofs.lemmas.Result.{IfOk-weaker}
 use Rattle.printout.specs.Texts.{text_of}
-use Rattle.report.specs.declared.opening.Unopened.{Unopened}
-use Rattle.report.specs.declared.opening.Unopened.TheVariants.{Faulty, NoMemory}
-use Rattle.report.specs.Expanding.{list_room, at_start, Expanded, refused, listed, Explains}
+use Rattle.printout.specs.declared.failure.Failure.{Failure}
+use Rattle.printout.specs.declared.failure.Failure.TheVariants.{Faulty, NoMemory}
+use Rattle.printout.specs.Failures.{Explains}
+use Rattle.report.specs.Expanding.{list_room, at_start, Expanded, refused, listed}
 use Rattle.report.specs.Opening.{Opening}
 use Rattle.report.proofs.expansion.Goals as goal
 
@@ -16,7 +17,7 @@ returns-in-Ok c =
     (λ v e. listed t opened.right opened.table (e ∙ ap (λ ws. text_of (at_start ws t) list_room) opened.words))
     c.start_text.ensures
 
-explained : (bytes text : List ℕ) (why : Unopened) → Opening bytes (Err why) → Explains why text → Expanded bytes text
+explained : (bytes text : List ℕ) (why : Failure) → Opening bytes (Err why) → Explains why text → Expanded bytes text
 explained bytes text (Faulty f) wrong line = refused f wrong line
 explained bytes text NoMemory wrong none = absurd none
 

@@ -1,14 +1,10 @@
-use Rattle.report.proofs.Openings.{room_lent, opened, unopened}
+use Rattle.std.proofs.Common.{rules}
+use Rattle.report.proofs.Openings.{room_lent, opening_of}
 use Rattle.report.proofs.opening.open_sheet.Goals as goal
 
-pub returns-in-Ok : goal.returns-in-Ok
-returns-in-Ok c =
+pub returns : goal.returns
+returns c =
     let spelt = c.in_ok-words.ensures in
     let room = room_lent c.args.bytes.now _ _ _ spelt c.deref.ensures.value c.in_ok-table.ensures in
-    opened c.args.bytes.now _ _ _ c.in_ok-check_bytes.ensures spelt room c.in-Ok.ensures.loading
-
-pub returns-in-Err : goal.returns-in-Err
-returns-in-Err c =
-    let spelt = c.in_ok-words.ensures in
-    let room = room_lent c.args.bytes.now _ _ _ spelt c.deref.ensures.value c.in_ok-table.ensures in
-    unopened c.args.bytes.now _ _ _ c.in_ok-check_bytes.ensures spelt room c.in-Err.ensures.loading.wrong
+    opening_of _ c.args.bytes.now _ _ c.load.result c.map_err.result c.in_ok-check_bytes.ensures spelt room c.load.ensures.loading (λ e d p. search rules)
+    c.map_err.ensures.cases
