@@ -12,7 +12,7 @@ const TAU: u32 = 0;
 const EXCEPTION: u32 = 3;
 
 /// An action and what it is renamed to.
-#[derive(Clone, Copy)]
+#[derive(Clone, Copy, Default)]
 pub(crate) struct Pair {
     pub source: u32,
     pub target: u32,
