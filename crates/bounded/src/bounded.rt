@@ -1,5 +1,5 @@
 // A list of at most N entries.
-ghost use Rattle.std.specs.Prelude.{◌≡◌, ◌+◌, ◌<◌, ◌≤◌, [], ◌∷◌, ◌++◌, length, take};
+ghost use Rattle.std.specs.Prelude.{◌≡◌, ◌+◌, ◌<◌, ◌≤◌, [], ◌∷◌, ◌++◌, length, take, drop};
 ghost use Rattle.bounded.specs.Lists.{pushing, pushed};
 
 use std::alloc::AllocError;
@@ -57,6 +57,20 @@ impl<T: Copy, const N: usize> Bounded<T, N> {
         }
         self.push(entry);
         Ok(())
+    }
+
+    /// The entries after the first few, as a list of their own.
+    pub fn after(&self, passed: usize) -> Bounded<T, N>
+        ensures { take result.count result.entries ≡ drop passed (take self.now.count self.now.entries) }
+    {
+        let mut rest = Bounded {
+            entries: self.entries,
+            count: 0,
+        };
+        for entry in &self.as_slice()[passed.min(self.count)..] {
+            rest.push(*entry);
+        }
+        rest
     }
 
     /// The entries.
