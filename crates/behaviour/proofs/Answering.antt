@@ -183,20 +183,20 @@ module _ (ws rs : List ℕ) (same : rs ≡ ws) (first : ℕ) where
   unassigned i e = chain_item i None e
 
 -- the code of an outcome under frames fs
-pub outcome_code : (x : OwnBranch) (h : Head) (fs : List ℕ) (c : Bool) → x.goal ≡ At h → fs ≡ drop x.behind (words_of x.frames) → c ≡ beyond (length fs)
+pub outcome_code : (x : OwnBranch) (h : Head) (fs : List ℕ) (c : Bool) → x.goal ≡ At h → fs ≡ words_of x.frames → c ≡ beyond (length fs)
     → code_of (outcome_of x) ≡ cond c [] (head_word (head_of h) ∷ map frame_word fs)
 outcome_code x h fs c g f b =
-    ap (λ (y : Goal). code_of (standing y (drop x.behind (words_of x.frames)))) g
+    ap (λ (y : Goal). code_of (standing y (words_of x.frames))) g
     ∙ (ap (λ ys. code_of (running (head_of h) ys)) (sym f) ∙ ap (λ y. cond y [] (head_word (head_of h) ∷ map frame_word fs)) (sym b))
 
 numbered_frames : (h : Top) (fs : List ℕ) → Numbered (running h fs) → AllByRecursion (λ f. f < 268435456) fs
 numbered_frames failed fs n = n
 numbered_frames (behaviour r) fs n = n.1
 
-pub frames_small : (x : OwnBranch) (h : Head) (fs : List ℕ) → x.goal ≡ At h → fs ≡ drop x.behind (words_of x.frames) → Numbered (outcome_of x) → AllByRecursion (λ f. f < 268435456) fs
+pub frames_small : (x : OwnBranch) (h : Head) (fs : List ℕ) → x.goal ≡ At h → fs ≡ words_of x.frames → Numbered (outcome_of x) → AllByRecursion (λ f. f < 268435456) fs
 frames_small x h fs g f n =
     numbered_frames (head_of h) fs
-    (subst (λ ys. Numbered (running (head_of h) ys)) (sym f) (subst (λ (y : Goal). Numbered (standing y (drop x.behind (words_of x.frames)))) g n))
+    (subst (λ ys. Numbered (running (head_of h) ys)) (sym f) (subst (λ (y : Goal). Numbered (standing y (words_of x.frames))) g n))
 
 pub frame_item : (w : ℕ) (fs : List ℕ) (i : ℕ) → (i ≡ 0 → ⊥) → i ≤ length fs → Some (frame_word (get_or fs (i - 1) 0)) ≡ slice_get (w ∷ map frame_word fs) i
 frame_item w fs i later h =

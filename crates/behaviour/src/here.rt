@@ -30,21 +30,15 @@ impl Behaviour {
     pub(crate) fn edge_at(&self, id: usize) -> Result<Edge, Refusal>
         ensures { MatchResult result (EdgeHere self.now id) (λ x. edge_by_id (meaning_of self.now) id ≡ Err x) }
     {
-        match path_to(&self.model, &self.place, id) {
-            Some(path) => Ok(edge_of(&self.model, path)),
-            None => Err(Refusal::NoEdge),
-        }
+        let path = path_to(&self.model, &self.place, id).ok_or(Refusal::NoEdge)?;
+        Ok(edge_of(&self.model, path))
     }
 
     /// A branch of that edge.
     pub(crate) fn branch_at(&self, id: usize, branch: usize) -> Result<Branch, Refusal>
         ensures { MatchResult result (BranchHere self.now id branch) (λ x. branch_of (edge_by_id (meaning_of self.now) id) branch ≡ Err x) }
     {
-        let edge = self.edge_at(id)?;
-        match edge.branch(&self.model, branch) {
-            Some(found) => Ok(found),
-            None => Err(Refusal::NoBranch),
-        }
+        self.edge_at(id)?.branch(&self.model, branch).ok_or(Refusal::NoBranch)
     }
 
     /// How many edges there are where the behaviour stands; they are exactly the derivable ones.
@@ -52,9 +46,6 @@ impl Behaviour {
         ensures value { result ≡ length (edges_here (meaning_of self.now)) }
         ensures derivations { EdgesAreTheDerivations self.now }
     {
-        match numbered::edge_count(self) {
-            Ok(count) => count,
-            Err(_) => unreachable(),
-        }
+        numbered::edge_count(self).unwrap()
     }
 }

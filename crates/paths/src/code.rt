@@ -6,7 +6,6 @@ ghost use Rattle.paths.specs.Paths.{code_words};
 use crate::word::CodeWord;
 use bounded::Bounded;
 
-
 /// The code of a place: at most 65 words, one for its head and one for each of 64 frames.
 #[derive(Clone, Copy)]
 pub struct Code {

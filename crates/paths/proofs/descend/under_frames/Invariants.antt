@@ -7,5 +7,5 @@ use Rattle.paths.proofs.descend.under_frames.Given as goal
 abbrev pub invariant-loop-word : goal.invariant-loop-word
 invariant-loop-word l = record {
   framed : path_of l.path ≡ within (map payload_of (take l.word-index l.words)) (path_of l.initial.path);
-  count : l.path.frames.count ≡ l.initial.path.frames.count + l.word-index
+  count : l.path.frames.count ≡ l.initial.path.frames.count + l.word-index;
 }
