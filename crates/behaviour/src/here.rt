@@ -1,6 +1,6 @@
 // The edges where a behaviour stands.
-ghost use Rattle.std.specs.Prelude.{◌≡◌, length, Err, MatchResult};
-ghost use Rattle.part.specs.Automata.{edges_here};
+ghost use Rattle.std.specs.Prelude.{◌≡◌, length, is_some, Err, MatchResult};
+ghost use Rattle.part.specs.Automata.{edges_here, edge_here};
 ghost use Rattle.part.specs.Questions.{edge_by_id, branch_of};
 ghost use Rattle.behaviour.specs.Behaviours.{meaning_of, start_of, EdgeHere, BranchHere, EdgesAreTheDerivations};
 
@@ -26,11 +26,20 @@ impl Behaviour {
         }
     }
 
+    /// Whether an edge has an id where the behaviour stands.
+    pub(crate) fn has_edge(&self, id: usize) -> bool
+        ensures { result ≡ is_some (edge_here (meaning_of self.now) id) }
+    {
+        path_to(&self.model, &self.place, id).is_some()
+    }
+
     /// The edge with an id where the behaviour stands.
     pub(crate) fn edge_at(&self, id: usize) -> Result<Edge, Refusal>
         ensures { MatchResult result (EdgeHere self.now id) (λ x. edge_by_id (meaning_of self.now) id ≡ Err x) }
     {
-        let path = path_to(&self.model, &self.place, id).ok_or(Refusal::NoEdge)?;
+        let Some(path) = path_to(&self.model, &self.place, id) else {
+            return Err(Refusal::NoEdge);
+        };
         Ok(edge_of(&self.model, path))
     }
 

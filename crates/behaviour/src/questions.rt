@@ -6,7 +6,7 @@ use crate::behaviour::Behaviour;
 use crate::outcome::{outcome_length, outcome_word};
 use extent::{is_place_in, knows_in};
 use part::{Assignment, Ceilings, Part};
-use paths::{CodeWord, path_to};
+use paths::CodeWord;
 use words::{NONE, Refusal, payload};
 
 /// A condition in a deadline, and the word that joins two terms of one by "or".
@@ -45,7 +45,7 @@ impl Part for Behaviour {
 
     fn next(&self, from: usize) -> Result<Option<usize>, Refusal> {
         let mut ids = from..self.ceilings.edges - 1;
-        Ok(ids.find(|id| path_to(&self.model, &self.place, *id).is_some()))
+        Ok(ids.find(|id| self.has_edge(*id)))
     }
 
     fn action(&self, id: usize) -> Result<u32, Refusal> {
@@ -70,8 +70,10 @@ impl Part for Behaviour {
         if item == 0 {
             return Ok(self.model.reader().urge());
         }
-        let condition = edge.path.urgents.as_slice().get((item - 1) / 2).ok_or(Refusal::NoItem)?;
-        Ok(if item % 2 == 0 { OR } else { CONDITION + condition })
+        let Some(condition) = edge.path.urgents.as_slice().get((item - 1) / 2) else {
+            return Err(Refusal::NoItem);
+        };
+        Ok(if item % 2 == 0 { OR } else { CONDITION + *condition })
     }
 
     fn branch_count(&self, id: usize) -> Result<usize, Refusal> {

@@ -2,6 +2,7 @@
 use Rattle.std.proofs.Common.{◌≡◌, ℕ, zero, suc, true, false, eqb, List, [], ◌∷◌, map, length, Some, None, Option, sym, refl, ap, ◌∙◌, arith}
 use Rattle.std.proofs.lemmas.List.{length-map}
 use Rattle.std.proofs.lemmas.Bool.{eq-eqb, ne_eqb}
+use Rattle.std.proofs.lemmas.Option.{slice_get-map}
 use Rattle.std.specs.Bool.{then_some}
 use Rattle.std.specs.List.{slice_get}
 use Rattle.std.specs.Option.{option_map}
@@ -25,11 +26,6 @@ use Rattle.edges.specs.declared.frame.Goal.TheVariants.{Done, At}
 use Rattle.edges.specs.declared.leaf.Ways.{Ways}
 use Rattle.edges.specs.declared.leaf.Ways.TheVariants.{Lone, Chain}
 use Rattle.edges.proofs.Chained.{chain-none}
-
-pub nth_map : {X Y : Type 0} (f : X → Y) (xs : List X) (i : ℕ) → slice_get (map f xs) i ≡ option_map f (slice_get xs i)
-nth_map f [] i = refl
-nth_map f (x ∷ xs) zero = refl
-nth_map f (x ∷ xs) (suc i) = nth_map f xs i
 
 module _ (ws : List ℕ) where
   -- a branch read from record r
@@ -55,8 +51,8 @@ module _ (ws : List ℕ) where
   chain_way rs first b w o w_is o_is same =
       ap (option_map (λ r. branch_of (way_at ws r))) (o_is ∙ ap (λ y. slice_get (chain y first) b) same)
       ∙ (twice (slice_get (chain ws first) b)
-      ∙ (ap (option_map branch_of) (sym (nth_map (way_at ws) (chain ws first) b))
-      ∙ (sym (nth_map branch_of (ways_from ws first) b) ∙ ap (λ (x : Ways). slice_get (branches_from ws x) b) (sym w_is))))
+      ∙ (ap (option_map branch_of) (sym (slice_get-map (way_at ws) (chain ws first) b))
+      ∙ (sym (slice_get-map branch_of (ways_from ws first) b) ∙ ap (λ (x : Ways). slice_get (branches_from ws x) b) (sym w_is))))
     where
       twice : (o : Option ℕ) → option_map (λ r. branch_of (way_at ws r)) o ≡ option_map branch_of (option_map (way_at ws) o)
       twice None = refl
