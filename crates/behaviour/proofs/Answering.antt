@@ -46,7 +46,7 @@ told b r =
     cond-false (eqb (1 + greatest_span (sheet_of b) (table_of b)) 0) _ r
     (ne_eqb (1 + greatest_span (sheet_of b) (table_of b)) 0 (λ e. omega arith))
 
-all_nth : {X : Type 0} (P : X → Type 0) (xs : List X) (i : ℕ) (x : X) → AllByRecursion P xs → slice_get xs i ≡ Some x → P x
+pub all_nth : {X : Type 0} (P : X → Type 0) (xs : List X) (i : ℕ) (x : X) → AllByRecursion P xs → slice_get xs i ≡ Some x → P x
 all_nth P [] i x h e = absurd (let z : ◌≡◌ {A = ℕ} 0 1 = cc in omega arith)
 all_nth P (y ∷ ys) zero x h e = let q : y ≡ x = cc in subst P q h.0
 all_nth P (y ∷ ys) (suc i) x h e = all_nth P ys i x h.1 e
@@ -172,59 +172,6 @@ module _ (first : ℕ) (cs : List ℕ) (i : ℕ) (later : i ≡ 0 → ⊥) where
         let r = reason cs ((i - 1) / 2) (2 * ((i - 1) / 2)) refl (slice_get_within cs ((i - 1) / 2) x there) in
         ap (λ y. Ok (condition y)) (sym (get_or_from_slice_get cs ((i - 1) / 2) x 0 there))
         ∙ ap (found NoItem) (sym (past_first ∙ (ap (slice_get (urging cs)) e ∙ r.0)))
-
-pub first_word : (ws rs cs : List ℕ) (u i : ℕ) → rs ≡ ws → u ≡ urge rs → i ≡ 0 → Ok u ≡ found NoItem (slice_get (constant (urge ws) ∷ urging cs) i)
-first_word ws rs cs u i same u_is z =
-    let e : u ≡ constant (urge ws) = omega (arith, ap urge same) in
-    ap (λ n. Ok n) e ∙ sym (ap (λ n. found NoItem (slice_get (constant (urge ws) ∷ urging cs) n)) z)
-
-pub small_item : (cs : List ℕ) (i x : ℕ) → AllByRecursion (λ c. c < 268435456) cs → slice_get cs i ≡ Some x → x < 268435456
-small_item cs i x all h = all_nth (λ c. c < 268435456) cs i x all h
-
--- assignments along a chain, read through words rs
-module _ (ws rs : List ℕ) (same : rs ≡ ws) (first : ℕ) where
-  pub chain_length : (key : ℕ) (s : Survey) → s ≡ survey_of rs key (chain rs first) → s.length ≡ length (map (assignment_at ws) (chain ws first))
-  chain_length key s e =
-      ap (λ (x : Survey). x.length) e ∙ (ap (λ ys. length (chain ys first)) same ∙ sym (length-map (chain ws first) (assignment_at ws)))
-
-  chain_item : (i : ℕ) (o : Option ℕ) → o ≡ slice_get (chain rs first) i → option_map (assignment_at ws) o ≡ slice_get (map (assignment_at ws) (chain ws first)) i
-  chain_item i o e =
-      ap (option_map (assignment_at ws)) (e ∙ ap (λ ys. slice_get (chain ys first) i) same) ∙ sym (slice_get-map (assignment_at ws) (chain ws first) i)
-
-  pub assigned : (i r k : ℕ) (x : Record) → Some r ≡ slice_get (chain rs first) i → x ≡ record_at rs r → k ≡ payload_of x.head
-      → ◌≡◌ {A = Option (ℕ × ℕ)} (Some (k, x.one)) (slice_get (map (assignment_at ws) (chain ws first)) i)
-  assigned i r k x e x_is k_is =
-      let q : x ≡ record_at ws r = x_is ∙ ap (λ ys. record_at ys r) same in
-      rw (k_is, q) (chain_item i (Some r) e)
-
-  pub unassigned : (i : ℕ) → None ≡ slice_get (chain rs first) i → None ≡ slice_get (map (assignment_at ws) (chain ws first)) i
-  unassigned i e = chain_item i None e
-
--- the code of an outcome under frames fs
-pub outcome_code : (x : OwnBranch) (h : Head) (fs : List ℕ) (c : Bool) → x.goal ≡ At h → fs ≡ words_of x.frames → c ≡ beyond (length fs)
-    → code_of (outcome_of x) ≡ cond c [] (head_word (head_of h) ∷ map frame_word fs)
-outcome_code x h fs c g f b =
-    ap (λ (y : Goal). code_of (standing y (words_of x.frames))) g
-    ∙ (ap (λ ys. code_of (running (head_of h) ys)) (sym f) ∙ ap (λ y. cond y [] (head_word (head_of h) ∷ map frame_word fs)) (sym b))
-
-numbered_frames : (h : Top) (fs : List ℕ) → Numbered (running h fs) → AllByRecursion (λ f. f < 268435456) fs
-numbered_frames failed fs n = n
-numbered_frames (behaviour r) fs n = n.1
-
-pub frames_small : (x : OwnBranch) (h : Head) (fs : List ℕ) → x.goal ≡ At h → fs ≡ words_of x.frames → Numbered (outcome_of x) → AllByRecursion (λ f. f < 268435456) fs
-frames_small x h fs g f n =
-    numbered_frames (head_of h) fs
-    (subst (λ ys. Numbered (running (head_of h) ys)) (sym f) (subst (λ (y : Goal). Numbered (standing y (words_of x.frames))) g n))
-
-pub frame_item : (w : ℕ) (fs : List ℕ) (i : ℕ) → (i ≡ 0 → ⊥) → i ≤ length fs → Some (frame_word (get_or fs (i - 1) 0)) ≡ slice_get (w ∷ map frame_word fs) i
-frame_item w fs i later h =
-    let e : i ≡ suc (i - 1) = omega arith in
-    let n = length-map fs frame_word in
-    ap Some (sym (get_or-map frame_word fs (i - 1) 0 0 (omega arith)))
-    ∙ (sym (slice_get-get_or (map frame_word fs) (i - 1) 0 (omega arith)) ∙ sym (ap (slice_get (w ∷ map frame_word fs)) e))
-
-pub no_frame_item : (w : ℕ) (fs : List ℕ) (i : ℕ) → length fs < i → None ≡ slice_get (w ∷ map frame_word fs) i
-no_frame_item w fs i h = let n = length-map fs frame_word in sym (slice_get_past (w ∷ map frame_word fs) i (omega arith))
 
 -- the least occupied id, found
 pub least_found : {X : Type 0} (f : ℕ → Option X) (from n : ℕ) → find (λ id. is_some (f id)) (range_with_len from n) ≡ least_occupied f from n

@@ -47,7 +47,9 @@ impl Behaviour {
     pub(crate) fn branch_at(&self, id: usize, branch: usize) -> Result<Branch, Refusal>
         ensures { MatchResult result (BranchHere self.now id branch) (λ x. branch_of (edge_by_id (meaning_of self.now) id) branch ≡ Err x) }
     {
-        self.edge_at(id)?.branch(&self.model, branch).ok_or(Refusal::NoBranch)
+        self.edge_at(id)?
+            .branch(&self.model, branch)
+            .ok_or(Refusal::NoBranch)
     }
 
     /// How many edges there are where the behaviour stands; they are exactly the derivable ones.

@@ -8,7 +8,7 @@ ghost use Rattle.edges.specs.Edges.{branch_from};
 ghost use Rattle.behaviour.specs.Outcomes.{outcome_of, Numbered};
 
 use edges::{Branch, Goal};
-use paths::{CodeWord, Head};
+use paths::CodeWord;
 use rules::is_beyond;
 
 /// How many words the code of a branch's outcome has; 0 where it lies beyond.
@@ -27,17 +27,6 @@ pub(crate) fn outcome_length(branch: &Branch) -> usize
     }
 }
 
-/// What the head word of a place says.
-fn head_word(head: Head) -> CodeWord
-    requires { Numbered (running (head_of head) []) }
-    ensures { word_of result ≡ head_word (head_of head) }
-{
-    match head {
-        Head::Failed => CodeWord::Failed,
-        Head::Behaviour(number) => CodeWord::Record(number),
-    }
-}
-
 /// A word of the code of a branch's outcome.
 pub(crate) fn outcome_word(branch: &Branch, item: usize) -> Option<u32>
     requires { Numbered (outcome_of branch.now) }
@@ -51,7 +40,7 @@ pub(crate) fn outcome_word(branch: &Branch, item: usize) -> Option<u32>
                 return None;
             }
             if item == 0 {
-                return Some(head_word(head).into());
+                return Some(CodeWord::from(head).into());
             }
             let frame = frames.get(item - 1)?;
             Some(CodeWord::Frame(*frame).into())

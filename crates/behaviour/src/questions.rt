@@ -9,6 +9,8 @@ use part::{Assignment, Ceilings, Part};
 use paths::CodeWord;
 use words::{NONE, Refusal, payload};
 
+// Kept: these numbers are the stated format of a deadline's words.
+
 /// A condition in a deadline, and the word that joins two terms of one by "or".
 const CONDITION: u32 = 0x1000_0000;
 
@@ -58,7 +60,14 @@ impl Part for Behaviour {
 
     fn guard_word(&self, id: usize, item: usize) -> Result<u32, Refusal> {
         let edge = self.edge_at(id)?;
-        edge.path.whens.as_slice().iter().rev().nth(item).copied().ok_or(Refusal::NoItem)
+        edge.path
+            .whens
+            .as_slice()
+            .iter()
+            .rev()
+            .nth(item)
+            .copied()
+            .ok_or(Refusal::NoItem)
     }
 
     fn deadline_length(&self, id: usize) -> Result<usize, Refusal> {
@@ -73,7 +82,11 @@ impl Part for Behaviour {
         let Some(condition) = edge.path.urgents.as_slice().get((item - 1) / 2) else {
             return Err(Refusal::NoItem);
         };
-        Ok(if item % 2 == 0 { OR } else { CONDITION + *condition })
+        Ok(if item % 2 == 0 {
+            OR
+        } else {
+            CONDITION + *condition
+        })
     }
 
     fn branch_count(&self, id: usize) -> Result<usize, Refusal> {

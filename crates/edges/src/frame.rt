@@ -13,6 +13,8 @@ use paths::{Head, Stack};
 use sheet::{Reader, Step};
 use words::{NONE, kind};
 
+// Kept: these numbers are the stated format of an action's word.
+
 /// The action of a break.
 pub(crate) const BREAK: u32 = 0x4000_0000;
 
@@ -20,6 +22,7 @@ pub(crate) const BREAK: u32 = 0x4000_0000;
 const EXCEPTION: u32 = 3;
 
 /// Where an outcome is, but for its frames: done, or at a head.
+// Kept: as an Option of a head it would stand inside another Option, as in `cut_at`.
 #[derive(Clone, Copy)]
 pub enum Goal {
     Done,
@@ -73,6 +76,7 @@ fn handler(model: &Model, first: u32, action: u32) -> Option<u32>
         return None;
     }
     let reader = model.reader();
+    // Kept: each record of a chain names the next one, and the reader has no iterator over them.
     let mut link = first;
     for _step in 0..reader.records() {
         if link == NONE {

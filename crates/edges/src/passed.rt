@@ -19,6 +19,7 @@ use paths::{Head, Path};
 use words::{NONE, payload};
 
 /// A branch before it passes frames.
+// Kept: a branch has these fields too, but its goal stands under the frames beside it.
 #[derive(Clone, Copy)]
 struct Way {
     weight: u32,

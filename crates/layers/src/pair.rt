@@ -5,6 +5,8 @@ ghost use Rattle.layers.specs.Renamings.{right};
 
 use words::{is_observable, kind};
 
+// Kept: these numbers are the stated format of an action's word.
+
 /// The silent action.
 const TAU: u32 = 0;
 

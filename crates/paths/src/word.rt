@@ -1,7 +1,8 @@
 // The words of a place's code.
 ghost use Rattle.std.specs.Prelude.{◌≡◌};
-ghost use Rattle.paths.specs.CodeWords.{word_of, Reads};
+ghost use Rattle.paths.specs.CodeWords.{word_of, saying, Reads};
 
+use crate::path::Head;
 use words::{kind, payload};
 
 /// What a word of a place's code says.
@@ -33,6 +34,18 @@ impl TryFrom<u32> for CodeWord {
             (9, number) => Ok(CodeWord::Record(number)),
             (10, number) => Ok(CodeWord::Frame(number)),
             _ => Err(NoCodeWord),
+        }
+    }
+}
+
+/// What the first word of a place's code says of the head.
+impl From<Head> for CodeWord {
+    ghost from_gives = { λ head said. said ≡ saying head };
+
+    fn from(head: Head) -> CodeWord {
+        match head {
+            Head::Failed => CodeWord::Failed,
+            Head::Behaviour(number) => CodeWord::Record(number),
         }
     }
 }

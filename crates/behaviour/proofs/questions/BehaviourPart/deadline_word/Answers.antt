@@ -1,4 +1,4 @@
-use Rattle.std.proofs.Common.{◌-◌, ◌/◌, sym, ap, ◌∙◌, arith}
+use Rattle.std.proofs.Common.{◌-◌, ◌/◌, ◌<◌, sym, ap, ◌∙◌, arith}
 use Rattle.std.specs.List.{slice_get}
 use Rattle.std.specs.Option.{option_copied}
 use Rattle.words.specs.Words.{constant}
@@ -6,7 +6,7 @@ use Rattle.sheet.specs.Layout.{urge}
 use Rattle.part.specs.Questions.{deadline_word_of}
 use Rattle.paths.specs.Paths.{words_of}
 use Rattle.behaviour.specs.Behaviours.{sheet_of}
-use Rattle.behaviour.proofs.Answering.{got, no_reason, joining, reasoning, small_item, conditions_small}
+use Rattle.behaviour.proofs.Answering.{got, no_reason, joining, reasoning, all_nth, conditions_small}
 use Rattle.behaviour.proofs.questions.BehaviourPart.deadline_word.Goals as goal
 
 pub returns-in_default : goal.returns-in_default
@@ -17,9 +17,9 @@ returns-in_default c =
 
 pub overflow_add-result : goal.overflow_add-result
 overflow_add-result c =
-    let small = small_item (words_of c.in_ok-edge.edge.path.urgents) ((c.args.item - 1) / 2) c.in-Some.condition.now
-        (conditions_small c.args.self.now c.args.id c.in_ok-edge.edge c.in_ok-edge.ensures)
-        (ap (λ xs. slice_get xs ((c.args.item - 1) / 2)) (sym c.as_slice.ensures) ∙ (sym (got _ _ _ c.get.ensures.lookup) ∙ ap option_copied c.in-Some.is)) in
+    let small = all_nth (λ c. c < 268435456) (words_of c.in_ok-edge.edge.path.urgents) ((c.args.item - 1) / 2) c.in-Some.condition.now
+    (conditions_small c.args.self.now c.args.id c.in_ok-edge.edge c.in_ok-edge.ensures)
+    (ap (λ xs. slice_get xs ((c.args.item - 1) / 2)) (sym c.as_slice.ensures) ∙ (sym (got _ _ _ c.get.ensures.lookup) ∙ ap option_copied c.in-Some.is)) in
     omega (arith, small)
 
 pub returns-then-item-eq0-2 : goal.returns-then-item-eq0-2

@@ -16,7 +16,7 @@ returns c =
     let f = edge_here (meaning_of b) in
     let count = b.ceilings.edges - 1 - c.args.from in
     let e = find_from_yields_List (λ id. is_some (f id)) _ _ c.find.result c.find.ensures.ran
-        (YieldsList-from_range c.args.from (b.ceilings.edges - 1) count (cc) (omega arith)) (λ x r q k. search (rules, tests)) in
+    (YieldsList-from_range c.args.from (b.ceilings.edges - 1) count (cc) (omega arith)) (λ x r q k. search (rules, tests)) in
     ap (λ o. Ok o)
     (sym (option_map_id c.find.result)
     ∙ (e ∙ (least_found f c.args.from count ∙ ap (λ n. least_occupied f c.args.from (n - c.args.from)) (id_bound b))))
