@@ -1,11 +1,12 @@
 -- From what the code holds to what a question answers.
-use Rattle.std.proofs.Common.{◌≡◌, ℕ, zero, suc, ◌+◌, ◌-◌, ◌*◌, ◌/◌, ◌%◌, ◌<◌, ◌≤◌, Bool, cond, eqb, List, [], ◌∷◌, map, reverse, length, get_or, drop, Some, None, Ok, Err, Option, sym, refl, ap, ◌∙◌, subst, arith}
-use Rattle.std.proofs.ByRecursion.{All-get_or}
-use Rattle.std.proofs.lemmas.List.{length-map, length-reverse, get_or-reverse, get_or-map}
-use Rattle.std.proofs.lemmas.Option.{slice_get-get_or, slice_get_past}
-use Rattle.std.proofs.lemmas.Bool.{cond-false, ne_eqb}
-use Rattle.std.specs.List.{slice_get, AllByRecursion}
-use Rattle.std.specs.Option.{option_map}
+use Rattle.std.proofs.Common.{◌≡◌, ℕ, zero, suc, ◌+◌, ◌-◌, ◌*◌, ◌/◌, ◌%◌, ◌<◌, ◌≤◌, Bool, cond, eqb, List, [], ◌∷◌, map, length, get_or, Some, None, Ok, Err, Option, Bor, ⊎_elim, sym, refl, ap, ◌∙◌, subst, arith}
+use Rattle.std.proofs.lemmas.List.{length-map, get_or-map}
+use Rattle.std.proofs.lemmas.Option.{none-some, slice_get-get_or, slice_get-map, slice_get_past, slice_get_within, get_or_from_slice_get}
+use Rattle.std.proofs.lemmas.Bool.{cases_lt, cond-false, ne_eqb}
+use Rattle.std.specs.List.{slice_get, find, range_with_len, AllByRecursion}
+use Rattle.std.specs.Option.{is_some, option_map, option_copied, ok_or}
+use Rattle.std.specs.Result.{MatchResult}
+use Rattle.std.specs.Slice.{IsItemAt}
 use Rattle.words.specs.Edges.{Branch, Edge, leading_to}
 use Rattle.words.specs.Words.{payload_of, constant, condition, disjunction, frame_word}
 use Rattle.words.specs.declared.Refusal.TheVariants.{NoEdge, NoBranch, NoItem}
@@ -31,7 +32,6 @@ use Rattle.edges.specs.declared.edge.Edge.{Edge as OwnEdge}
 use Rattle.edges.specs.declared.frame.Goal.{Goal}
 use Rattle.edges.specs.declared.frame.Goal.TheVariants.{At}
 use Rattle.edges.specs.Frames.{standing}
-use Rattle.edges.proofs.Outcomes.{nth_map}
 use Rattle.behaviour.specs.Automata.{coded}
 use Rattle.behaviour.specs.Behaviours.{sheet_of, table_of, here_of, meaning_of, EdgeHere, BranchHere}
 use Rattle.behaviour.specs.Outcomes.{outcome_of, Numbered}
@@ -46,7 +46,7 @@ told b r =
     cond-false (eqb (1 + greatest_span (sheet_of b) (table_of b)) 0) _ r
     (ne_eqb (1 + greatest_span (sheet_of b) (table_of b)) 0 (λ e. omega arith))
 
-all_nth : {X : Type 0} (P : X → Type 0) (xs : List X) (i : ℕ) (x : X) → AllByRecursion P xs → slice_get xs i ≡ Some x → P x
+pub all_nth : {X : Type 0} (P : X → Type 0) (xs : List X) (i : ℕ) (x : X) → AllByRecursion P xs → slice_get xs i ≡ Some x → P x
 all_nth P [] i x h e = absurd (let z : ◌≡◌ {A = ℕ} 0 1 = cc in omega arith)
 all_nth P (y ∷ ys) zero x h e = let q : y ≡ x = cc in subst P q h.0
 all_nth P (y ∷ ys) (suc i) x h e = all_nth P ys i x h.1 e
@@ -67,6 +67,13 @@ module _ (b : Behaviour) where
   pub id_bound : b.ceilings.edges - 1 ≡ ids_of (meaning_of b)
   id_bound = ap (λ (x : Ceilings). x.edges - 1) b.told
 
+  pub edge_there : (id : ℕ) (o : Option Path) (r : Bool) → option_map path_of o ≡ path_here id → r ≡ is_some o → r ≡ is_some (edge_here (meaning_of b) id)
+  edge_there id o r e r_is = r_is ∙ (go o ∙ ap is_some (sym (edge_by_path id (option_map path_of o) e)))
+    where
+      go : (o : Option Path) → is_some o ≡ is_some (option_map coded (option_map (path_edge (term_at (sheet_of b)) (urge (sheet_of b))) (option_map path_of o)))
+      go None = refl
+      go (Some p) = refl
+
   pub edge_here_lem : (id : ℕ) (p : Path) (e : OwnEdge) → Some (path_of p) ≡ path_here id
       → edge_of (sheet_of b) e ≡ path_edge (term_at (sheet_of b)) (urge (sheet_of b)) (path_of p) → e.path ≡ p → EdgeHere b id e
   edge_here_lem id p e h value same =
@@ -83,7 +90,7 @@ module _ (b : Behaviour) where
       → branch_of (edge_by_id (meaning_of b) id) branch ≡ found NoBranch (option_map (leading_to code_of) o)
   branch_answer id branch e o h o_is =
       ap (λ x. branch_of x branch) h.answer
-      ∙ ap (found NoBranch) (nth_map (leading_to code_of) (outcomes_of (sheet_of b) e) branch ∙ ap (option_map (leading_to code_of)) (sym o_is))
+      ∙ ap (found NoBranch) (slice_get-map (leading_to code_of) (outcomes_of (sheet_of b) e) branch ∙ ap (option_map (leading_to code_of)) (sym o_is))
 
   pub branch_here : (id branch : ℕ) (e : OwnEdge) (x : OwnBranch) → EdgeHere b id e → Some (branch_from (sheet_of b) x) ≡ slice_get (outcomes_of (sheet_of b) e) branch → BranchHere b id branch x
   branch_here id branch e x h is =
@@ -99,25 +106,35 @@ module _ (b : Behaviour) where
   pub no_branch : (id branch : ℕ) (e : OwnEdge) → EdgeHere b id e → None ≡ slice_get (outcomes_of (sheet_of b) e) branch → branch_of (edge_by_id (meaning_of b) id) branch ≡ Err NoBranch
   no_branch id branch e h is = branch_answer id branch e None h is
 
+  pub branch_answered : (id branch : ℕ) (e : OwnEdge) (o : Option OwnBranch) (r : Answer OwnBranch) → EdgeHere b id e
+      → option_map (branch_from (sheet_of b)) o ≡ slice_get (outcomes_of (sheet_of b) e) branch → r ≡ ok_or o NoBranch
+      → MatchResult r (BranchHere b id branch) (λ x. branch_of (edge_by_id (meaning_of b) id) branch ≡ Err x)
+  branch_answered id branch e o r h is r_is =
+      subst (λ y. MatchResult y (BranchHere b id branch) (λ x. branch_of (edge_by_id (meaning_of b) id) branch ≡ Err x)) (sym r_is) (go o is)
+    where
+      go : (o : Option OwnBranch) → option_map (branch_from (sheet_of b)) o ≡ slice_get (outcomes_of (sheet_of b) e) branch
+          → MatchResult (ok_or o NoBranch) (BranchHere b id branch) (λ x. branch_of (edge_by_id (meaning_of b) id) branch ≡ Err x)
+      go None is = no_branch id branch e h is
+      go (Some x) is = branch_here id branch e x h is
+
   pub conditions_small : (id : ℕ) (e : OwnEdge) → EdgeHere b id e → AllByRecursion (λ c. c < 268435456) (words_of e.path.urgents)
   conditions_small id e h =
       (path_full (sheet_of b) (table_of b) (loaded b.model) (here_of b) here_sound id (path_of e.path) (sym h.found)).right.conditioned
 
--- an item of a list, and none past its end
-pub item : (xs ys : List ℕ) (i : ℕ) → xs ≡ ys → i < length xs → Ok (get_or xs i 0) ≡ found NoItem (slice_get ys i)
-item xs ys i e h = ap (found NoItem) (sym (slice_get-get_or xs i 0 h)) ∙ ap (λ zs. found NoItem (slice_get zs i)) e
+-- what is read at a place of a slice, and what is answered then
+pub got : (xs : List ℕ) (i : ℕ) (o : Option (Bor ℕ)) → IsItemAt xs i o → option_copied o ≡ slice_get xs i
+got xs i None h = sym (slice_get_past xs i h.3)
+got xs i (Some x) h = ap Some h.1 ∙ sym (slice_get-get_or xs i x.now h.3.0)
 
-pub no_item : (xs ys : List ℕ) (i : ℕ) → xs ≡ ys → length xs ≤ i → Err NoItem ≡ found NoItem (slice_get ys i)
-no_item xs ys i e h = ap (found NoItem) (sym (slice_get_past xs i h)) ∙ ap (λ zs. found NoItem (slice_get zs i)) e
+pub item_found : {X : Type 0} (r : Answer X) (o : Option X) {p : Option X} → r ≡ ok_or o NoItem → o ≡ p → r ≡ found NoItem p
+item_found {X} r o r_is o_is = r_is ∙ (go o ∙ ap (found NoItem) o_is)
+  where
+    go : (o : Option X) → ok_or o NoItem ≡ found NoItem o
+    go None = refl
+    go (Some x) = refl
 
--- an item of a list read backwards
-pub back_item : (xs ys : List ℕ) (i : ℕ) → xs ≡ ys → i < length xs → Ok (get_or xs (length xs - 1 - i) 0) ≡ found NoItem (slice_get (reverse ys) i)
-back_item xs ys i e h =
-    ap (λ n. Ok n) (sym (get_or-reverse xs i 0 h))
-    ∙ item (reverse xs) (reverse ys) i (ap reverse e) (let n = length-reverse xs in omega arith)
-
-pub no_back_item : (xs ys : List ℕ) (i : ℕ) → xs ≡ ys → length xs ≤ i → Err NoItem ≡ found NoItem (slice_get (reverse ys) i)
-no_back_item xs ys i e h = no_item (reverse xs) (reverse ys) i (ap reverse e) (let n = length-reverse xs in omega arith)
+none_past : (xs : List ℕ) (i : ℕ) → slice_get xs i ≡ None → length xs ≤ i
+none_past xs i h = ⊎_elim (λ l. absurd (none-some (get_or xs i 0) (sym h ∙ slice_get-get_or xs i 0 l))) (λ l. l) (cases_lt i (length xs))
 
 -- the words of a deadline
 pub length-urging : (cs : List ℕ) → length (urging cs) ≡ 2 * length cs
@@ -132,95 +149,39 @@ reason (c ∷ cs) (suc k) j e h =
     let z : j ≡ suc (suc (2 * k)) = omega arith in
     (rw z r.0, rw z r.1)
 
-module _ (first : ℕ) (cs xs : List ℕ) (same : xs ≡ cs) (i : ℕ) (later : i ≡ 0 → ⊥) where
+module _ (first : ℕ) (cs : List ℕ) (i : ℕ) (later : i ≡ 0 → ⊥) where
   past_first : slice_get (first ∷ urging cs) i ≡ slice_get (urging cs) (i - 1)
   past_first = let e : i ≡ suc (i - 1) = omega arith in ap (slice_get (first ∷ urging cs)) e
 
-  pub no_reason : length xs ≤ (i - 1) / 2 → Err NoItem ≡ found NoItem (slice_get (first ∷ urging cs) i)
+  pub no_reason : slice_get cs ((i - 1) / 2) ≡ None → Err NoItem ≡ found NoItem (slice_get (first ∷ urging cs) i)
   no_reason h =
       let n = length-urging cs in
-      let m = ap length same in
+      let p = none_past cs ((i - 1) / 2) h in
       ap (found NoItem) (sym (past_first ∙ slice_get_past (urging cs) (i - 1) (omega arith)))
 
-  pub joining : (i - 1) / 2 < length xs → i % 2 ≡ 0 → Ok disjunction ≡ found NoItem (slice_get (first ∷ urging cs) i)
-  joining h even =
-      let m = ap length same in
-      let e : i - 1 ≡ suc (2 * ((i - 1) / 2)) = omega arith in
-      ap (found NoItem) (sym (past_first ∙ (ap (slice_get (urging cs)) e ∙ (reason cs ((i - 1) / 2) (2 * ((i - 1) / 2)) refl (omega arith)).1)))
+  module _ (x : ℕ) (there : slice_get cs ((i - 1) / 2) ≡ Some x) where
+    pub joining : i % 2 ≡ 0 → Ok disjunction ≡ found NoItem (slice_get (first ∷ urging cs) i)
+    joining even =
+        let e : i - 1 ≡ suc (2 * ((i - 1) / 2)) = omega arith in
+        let r = reason cs ((i - 1) / 2) (2 * ((i - 1) / 2)) refl (slice_get_within cs ((i - 1) / 2) x there) in
+        ap (found NoItem) (sym (past_first ∙ (ap (slice_get (urging cs)) e ∙ r.1)))
 
-  pub reasoning : (i - 1) / 2 < length xs → (i % 2 ≡ 0 → ⊥) → Ok (condition (get_or xs ((i - 1) / 2) 0)) ≡ found NoItem (slice_get (first ∷ urging cs) i)
-  reasoning h odd =
-      let m = ap length same in
-      let e : i - 1 ≡ 2 * ((i - 1) / 2) = omega arith in
-      ap (λ zs. Ok (condition (get_or zs ((i - 1) / 2) 0))) same
-      ∙ ap (found NoItem) (sym (past_first ∙ (ap (slice_get (urging cs)) e ∙ (reason cs ((i - 1) / 2) (2 * ((i - 1) / 2)) refl (omega arith)).0)))
+    pub reasoning : (i % 2 ≡ 0 → ⊥) → Ok (condition x) ≡ found NoItem (slice_get (first ∷ urging cs) i)
+    reasoning odd =
+        let e : i - 1 ≡ 2 * ((i - 1) / 2) = omega arith in
+        let r = reason cs ((i - 1) / 2) (2 * ((i - 1) / 2)) refl (slice_get_within cs ((i - 1) / 2) x there) in
+        ap (λ y. Ok (condition y)) (sym (get_or_from_slice_get cs ((i - 1) / 2) x 0 there))
+        ∙ ap (found NoItem) (sym (past_first ∙ (ap (slice_get (urging cs)) e ∙ r.0)))
 
-pub first_word : (ws rs cs : List ℕ) (u i : ℕ) → rs ≡ ws → u ≡ urge rs → i ≡ 0 → Ok u ≡ found NoItem (slice_get (constant (urge ws) ∷ urging cs) i)
-first_word ws rs cs u i same u_is z =
-    let e : u ≡ constant (urge ws) = omega (arith, ap urge same) in
-    ap (λ n. Ok n) e ∙ sym (ap (λ n. found NoItem (slice_get (constant (urge ws) ∷ urging cs) n)) z)
+-- the least occupied id, found
+pub least_found : {X : Type 0} (f : ℕ → Option X) (from n : ℕ) → find (λ id. is_some (f id)) (range_with_len from n) ≡ least_occupied f from n
+least_found f from zero = refl
+least_found {X} f from (suc n) = go (f from) (least_found f (from + 1) n ∙ ap (λ k. least_occupied f k n) next)
+  where
+    next : from + 1 ≡ suc from
+    next = omega arith
 
-pub small_at : (xs ys : List ℕ) (i : ℕ) → xs ≡ ys → i < length xs → AllByRecursion (λ c. c < 268435456) ys → get_or xs i 0 < 268435456
-small_at xs ys i e h all = All-get_or (λ c. c < 268435456) xs i 0 h (subst (AllByRecursion (λ c. c < 268435456)) (sym e) all)
-
--- assignments along a chain, read through words rs
-module _ (ws rs : List ℕ) (same : rs ≡ ws) (first : ℕ) where
-  pub chain_length : (key : ℕ) (s : Survey) → s ≡ survey_of rs key (chain rs first) → s.length ≡ length (map (assignment_at ws) (chain ws first))
-  chain_length key s e =
-      ap (λ (x : Survey). x.length) e ∙ (ap (λ ys. length (chain ys first)) same ∙ sym (length-map (chain ws first) (assignment_at ws)))
-
-  chain_item : (i : ℕ) (o : Option ℕ) → o ≡ slice_get (chain rs first) i → option_map (assignment_at ws) o ≡ slice_get (map (assignment_at ws) (chain ws first)) i
-  chain_item i o e =
-      ap (option_map (assignment_at ws)) (e ∙ ap (λ ys. slice_get (chain ys first) i) same) ∙ sym (nth_map (assignment_at ws) (chain ws first) i)
-
-  pub assigned : (i r k : ℕ) (x : Record) → Some r ≡ slice_get (chain rs first) i → x ≡ record_at rs r → k ≡ payload_of x.head
-      → ◌≡◌ {A = Option (ℕ × ℕ)} (Some (k, x.one)) (slice_get (map (assignment_at ws) (chain ws first)) i)
-  assigned i r k x e x_is k_is =
-      let q : x ≡ record_at ws r = x_is ∙ ap (λ ys. record_at ys r) same in
-      rw (k_is, q) (chain_item i (Some r) e)
-
-  pub unassigned : (i : ℕ) → None ≡ slice_get (chain rs first) i → None ≡ slice_get (map (assignment_at ws) (chain ws first)) i
-  unassigned i e = chain_item i None e
-
--- the code of an outcome under frames fs
-pub outcome_code : (x : OwnBranch) (h : Head) (fs : List ℕ) (c : Bool) → x.goal ≡ At h → fs ≡ drop x.behind (words_of x.frames) → c ≡ beyond (length fs)
-    → code_of (outcome_of x) ≡ cond c [] (head_word (head_of h) ∷ map frame_word fs)
-outcome_code x h fs c g f b =
-    ap (λ (y : Goal). code_of (standing y (drop x.behind (words_of x.frames)))) g
-    ∙ (ap (λ ys. code_of (running (head_of h) ys)) (sym f) ∙ ap (λ y. cond y [] (head_word (head_of h) ∷ map frame_word fs)) (sym b))
-
-numbered_frames : (h : Top) (fs : List ℕ) → Numbered (running h fs) → AllByRecursion (λ f. f < 268435456) fs
-numbered_frames failed fs n = n
-numbered_frames (behaviour r) fs n = n.1
-
-pub frames_small : (x : OwnBranch) (h : Head) (fs : List ℕ) → x.goal ≡ At h → fs ≡ drop x.behind (words_of x.frames) → Numbered (outcome_of x) → AllByRecursion (λ f. f < 268435456) fs
-frames_small x h fs g f n =
-    numbered_frames (head_of h) fs
-    (subst (λ ys. Numbered (running (head_of h) ys)) (sym f) (subst (λ (y : Goal). Numbered (standing y (drop x.behind (words_of x.frames)))) g n))
-
-pub frame_item : (w : ℕ) (fs : List ℕ) (i : ℕ) → (i ≡ 0 → ⊥) → i ≤ length fs → Some (frame_word (get_or fs (i - 1) 0)) ≡ slice_get (w ∷ map frame_word fs) i
-frame_item w fs i later h =
-    let e : i ≡ suc (i - 1) = omega arith in
-    let n = length-map fs frame_word in
-    ap Some (sym (get_or-map frame_word fs (i - 1) 0 0 (omega arith)))
-    ∙ (sym (slice_get-get_or (map frame_word fs) (i - 1) 0 (omega arith)) ∙ sym (ap (slice_get (w ∷ map frame_word fs)) e))
-
-pub no_frame_item : (w : ℕ) (fs : List ℕ) (i : ℕ) → length fs < i → None ≡ slice_get (w ∷ map frame_word fs) i
-no_frame_item w fs i h = let n = length-map fs frame_word in sym (slice_get_past (w ∷ map frame_word fs) i (omega arith))
-
--- the least occupied id, one id after another
-module _ {X : Type 0} (f : ℕ → Option X) (bound : ℕ) where
-  count_down : (id : ℕ) → id < bound → least_occupied f id (bound - id) ≡ or_else (f id) id (least_occupied f (id + 1) (bound - (id + 1)))
-  count_down id h =
-      let e : bound - id ≡ suc (bound - (id + 1)) = omega arith in
-      let s : suc id ≡ id + 1 = omega arith in
-      ap (least_occupied f id) e ∙ ap (λ n. or_else (f id) id (least_occupied f n (bound - (id + 1)))) s
-
-  pub least_here : (id : ℕ) (x : X) → id < bound → f id ≡ Some x → Some id ≡ least_occupied f id (bound - id)
-  least_here id x h e = sym (count_down id h ∙ ap (λ (o : Option X). or_else o id (least_occupied f (id + 1) (bound - (id + 1)))) e)
-
-  pub least_later : (id : ℕ) → id < bound → f id ≡ None → least_occupied f (id + 1) (bound - (id + 1)) ≡ least_occupied f id (bound - id)
-  least_later id h e = sym (count_down id h ∙ ap (λ (o : Option X). or_else o id (least_occupied f (id + 1) (bound - (id + 1)))) e)
-
-  pub least_nowhere : (id : ℕ) → bound ≤ id → None ≡ least_occupied f id (bound - id)
-  least_nowhere id h = let e : bound - id ≡ 0 = omega arith in sym (ap (least_occupied f id) e)
+    go : (o : Option X) → find (λ id. is_some (f id)) (range_with_len (from + 1) n) ≡ least_occupied f (suc from) n
+        → cond (is_some o) (Some from) (find (λ id. is_some (f id)) (range_with_len (from + 1) n)) ≡ or_else o from (least_occupied f (suc from) n)
+    go None e = e
+    go (Some x) e = refl

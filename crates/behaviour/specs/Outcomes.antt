@@ -1,5 +1,5 @@
 -- The place that a branch leads to.
-use Rattle.std.specs.Prelude.{◌<◌, drop}
+use Rattle.std.specs.Prelude.{◌<◌}
 use Rattle.std.specs.List.{AllByRecursion}
 use Rattle.rules.specs.Places.{failed, behaviour, Place, done, running}
 use Rattle.paths.specs.Paths.{words_of}
@@ -7,7 +7,7 @@ use Rattle.edges.specs.Frames.{standing}
 use Rattle.edges.specs.declared.edge.Branch.{Branch}
 
 abbrev pub outcome_of : Branch → Place
-outcome_of b = standing b.goal (drop b.behind (words_of b.frames))
+outcome_of b = standing b.goal (words_of b.frames)
 
 -- every record of a place has a number that fits a payload
 abbrev pub Numbered : Place → Type 0

@@ -1,5 +1,6 @@
 // A behaviour: a model, and the place where it stands.
-ghost use Rattle.std.specs.Prelude.{◌≡◌, true, take};
+ghost use Rattle.std.specs.Prelude.{◌≡◌, true};
+ghost use Rattle.paths.specs.Paths.{code_words};
 ghost use Rattle.paths.specs.Places.{is_place};
 ghost use Rattle.extent.specs.Bounds.{ceilings_in};
 
@@ -13,6 +14,6 @@ pub struct Behaviour {
     pub(crate) model: Model,
     pub(crate) place: Code,
     pub(crate) ceilings: Ceilings,
-    ghost stands: { is_place model.words.items (take place.count place.words) ≡ true },
+    ghost stands: { is_place model.words.items (code_words place) ≡ true },
     ghost told: { ceilings ≡ ceilings_in model.words.items model.table.items },
 }

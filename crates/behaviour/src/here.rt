@@ -1,6 +1,6 @@
 // The edges where a behaviour stands.
-ghost use Rattle.std.specs.Prelude.{◌≡◌, length, Err, MatchResult};
-ghost use Rattle.part.specs.Automata.{edges_here};
+ghost use Rattle.std.specs.Prelude.{◌≡◌, length, is_some, Err, MatchResult};
+ghost use Rattle.part.specs.Automata.{edges_here, edge_here};
 ghost use Rattle.part.specs.Questions.{edge_by_id, branch_of};
 ghost use Rattle.behaviour.specs.Behaviours.{meaning_of, start_of, EdgeHere, BranchHere, EdgesAreTheDerivations};
 
@@ -26,25 +26,30 @@ impl Behaviour {
         }
     }
 
+    /// Whether an edge has an id where the behaviour stands.
+    pub(crate) fn has_edge(&self, id: usize) -> bool
+        ensures { result ≡ is_some (edge_here (meaning_of self.now) id) }
+    {
+        path_to(&self.model, &self.place, id).is_some()
+    }
+
     /// The edge with an id where the behaviour stands.
     pub(crate) fn edge_at(&self, id: usize) -> Result<Edge, Refusal>
         ensures { MatchResult result (EdgeHere self.now id) (λ x. edge_by_id (meaning_of self.now) id ≡ Err x) }
     {
-        match path_to(&self.model, &self.place, id) {
-            Some(path) => Ok(edge_of(&self.model, path)),
-            None => Err(Refusal::NoEdge),
-        }
+        let Some(path) = path_to(&self.model, &self.place, id) else {
+            return Err(Refusal::NoEdge);
+        };
+        Ok(edge_of(&self.model, path))
     }
 
     /// A branch of that edge.
     pub(crate) fn branch_at(&self, id: usize, branch: usize) -> Result<Branch, Refusal>
         ensures { MatchResult result (BranchHere self.now id branch) (λ x. branch_of (edge_by_id (meaning_of self.now) id) branch ≡ Err x) }
     {
-        let edge = self.edge_at(id)?;
-        match edge.branch(&self.model, branch) {
-            Some(found) => Ok(found),
-            None => Err(Refusal::NoBranch),
-        }
+        self.edge_at(id)?
+            .branch(&self.model, branch)
+            .ok_or(Refusal::NoBranch)
     }
 
     /// How many edges there are where the behaviour stands; they are exactly the derivable ones.
@@ -52,9 +57,6 @@ impl Behaviour {
         ensures value { result ≡ length (edges_here (meaning_of self.now)) }
         ensures derivations { EdgesAreTheDerivations self.now }
     {
-        match numbered::edge_count(self) {
-            Ok(count) => count,
-            Err(_) => unreachable(),
-        }
+        numbered::edge_count(self).unwrap()
     }
 }

@@ -3,11 +3,12 @@ ghost use Rattle.std.specs.Prelude.{◌≡◌, [], length};
 ghost use Rattle.std.specs.List.{slice_get};
 ghost use Rattle.rules.specs.Places.{running, code_of, head_word};
 ghost use Rattle.paths.specs.Paths.{head_of};
+ghost use Rattle.paths.specs.CodeWords.{word_of};
 ghost use Rattle.edges.specs.Edges.{branch_from};
 ghost use Rattle.behaviour.specs.Outcomes.{outcome_of, Numbered};
 
 use edges::{Branch, Goal};
-use paths::{DONE, FAILED, FRAME, Head, RECORD};
+use paths::CodeWord;
 use rules::is_beyond;
 
 /// How many words the code of a branch's outcome has; 0 where it lies beyond.
@@ -26,36 +27,23 @@ pub(crate) fn outcome_length(branch: &Branch) -> usize
     }
 }
 
-/// The head word of a place.
-fn head_word(head: Head) -> u32
-    requires { Numbered (running (head_of head) []) }
-    ensures { result ≡ head_word (head_of head) }
-{
-    match head {
-        Head::Failed => FAILED,
-        Head::Behaviour(number) => RECORD + number,
-    }
-}
-
 /// A word of the code of a branch's outcome.
 pub(crate) fn outcome_word(branch: &Branch, item: usize) -> Option<u32>
     requires { Numbered (outcome_of branch.now) }
     ensures { result ≡ slice_get (code_of (outcome_of branch.now)) item }
 {
     match branch.goal {
-        Goal::Done => if item == 0 { Some(DONE) } else { None },
+        Goal::Done => (item == 0).then_some(CodeWord::Done.into()),
         Goal::At(head) => {
             let frames = branch.frames();
             if is_beyond(frames.len()) {
                 return None;
             }
             if item == 0 {
-                return Some(head_word(head));
+                return Some(CodeWord::from(head).into());
             }
-            if item > frames.len() {
-                return None;
-            }
-            Some(FRAME + frames[item - 1])
+            let frame = frames.get(item - 1)?;
+            Some(CodeWord::Frame(*frame).into())
         }
     }
 }

@@ -6,8 +6,10 @@ use crate::behaviour::Behaviour;
 use crate::outcome::{outcome_length, outcome_word};
 use extent::{is_place_in, knows_in};
 use part::{Assignment, Ceilings, Part};
-use paths::{DONE, path_to};
+use paths::CodeWord;
 use words::{NONE, Refusal, payload};
+
+// Kept: these numbers are the stated format of a deadline's words.
 
 /// A condition in a deadline, and the word that joins two terms of one by "or".
 const CONDITION: u32 = 0x1000_0000;
@@ -24,10 +26,7 @@ impl Part for Behaviour {
     }
 
     fn is_done(&self) -> Result<bool, Refusal> {
-        match self.place.words() {
-            [head, ..] => Ok(*head == DONE),
-            [] => Ok(false),
-        }
+        Ok(self.place.words().first() == Some(&CodeWord::Done.into()))
     }
 
     fn knows(&self, action: u32) -> Result<bool, Refusal> {
@@ -43,73 +42,59 @@ impl Part for Behaviour {
     }
 
     fn code_word(&self, item: usize) -> Result<u32, Refusal> {
-        let words = self.place.words();
-        if item < words.len() {
-            Ok(words[item])
-        } else {
-            Err(Refusal::NoItem)
-        }
+        self.place.words().get(item).copied().ok_or(Refusal::NoItem)
     }
 
     fn next(&self, from: usize) -> Result<Option<usize>, Refusal> {
-        for id in from..self.ceilings.edges - 1 {
-            match path_to(&self.model, &self.place, id) {
-                Some(_) => return Ok(Some(id)),
-                None => {}
-            }
-        }
-        Ok(None)
+        let mut ids = from..self.ceilings.edges - 1;
+        Ok(ids.find(|id| self.has_edge(*id)))
     }
 
     fn action(&self, id: usize) -> Result<u32, Refusal> {
-        let edge = self.edge_at(id)?;
-        Ok(edge.action)
+        Ok(self.edge_at(id)?.action)
     }
 
     fn guard_length(&self, id: usize) -> Result<usize, Refusal> {
-        let edge = self.edge_at(id)?;
-        Ok(edge.path.whens.words().len())
+        Ok(self.edge_at(id)?.path.whens.as_slice().len())
     }
 
     fn guard_word(&self, id: usize, item: usize) -> Result<u32, Refusal> {
         let edge = self.edge_at(id)?;
-        let conditions = edge.path.whens.words();
-        if item < conditions.len() {
-            Ok(conditions[conditions.len() - 1 - item])
-        } else {
-            Err(Refusal::NoItem)
-        }
+        edge.path
+            .whens
+            .as_slice()
+            .iter()
+            .rev()
+            .nth(item)
+            .copied()
+            .ok_or(Refusal::NoItem)
     }
 
     fn deadline_length(&self, id: usize) -> Result<usize, Refusal> {
-        let edge = self.edge_at(id)?;
-        Ok(1 + 2 * edge.path.urgents.words().len())
+        Ok(1 + 2 * self.edge_at(id)?.path.urgents.as_slice().len())
     }
 
     fn deadline_word(&self, id: usize, item: usize) -> Result<u32, Refusal> {
         let edge = self.edge_at(id)?;
-        let conditions = edge.path.urgents.words();
         if item == 0 {
             return Ok(self.model.reader().urge());
         }
-        let at = (item - 1) / 2;
-        if at >= conditions.len() {
+        let Some(condition) = edge.path.urgents.as_slice().get((item - 1) / 2) else {
             return Err(Refusal::NoItem);
-        }
-        if item % 2 == 0 {
-            return Ok(OR);
-        }
-        Ok(CONDITION + conditions[at])
+        };
+        Ok(if item % 2 == 0 {
+            OR
+        } else {
+            CONDITION + *condition
+        })
     }
 
     fn branch_count(&self, id: usize) -> Result<usize, Refusal> {
-        let edge = self.edge_at(id)?;
-        Ok(edge.branch_count(&self.model))
+        Ok(self.edge_at(id)?.branch_count(&self.model))
     }
 
     fn weight(&self, id: usize, branch: usize) -> Result<u32, Refusal> {
-        let found = self.branch_at(id, branch)?;
-        Ok(found.weight)
+        Ok(self.branch_at(id, branch)?.weight)
     }
 
     fn assignment_count(&self, id: usize, branch: usize) -> Result<usize, Refusal> {
@@ -120,16 +105,12 @@ impl Part for Behaviour {
     fn assignment(&self, id: usize, branch: usize, item: usize) -> Result<Assignment, Refusal> {
         let found = self.branch_at(id, branch)?;
         let reader = self.model.reader();
-        match reader.link(found.assignments, item) {
-            Some(number) => {
-                let record = reader.record(number);
-                Ok(Assignment {
-                    variable: payload(record.head),
-                    expression: record.one,
-                })
-            }
-            None => Err(Refusal::NoItem),
-        }
+        let number = reader.link(found.assignments, item).ok_or(Refusal::NoItem)?;
+        let record = reader.record(number);
+        Ok(Assignment {
+            variable: payload(record.head),
+            expression: record.one,
+        })
     }
 
     fn outcome_length(&self, id: usize, branch: usize) -> Result<usize, Refusal> {
@@ -139,9 +120,6 @@ impl Part for Behaviour {
 
     fn outcome_word(&self, id: usize, branch: usize, item: usize) -> Result<u32, Refusal> {
         let found = self.branch_at(id, branch)?;
-        match outcome_word(&found, item) {
-            Some(word) => Ok(word),
-            None => Err(Refusal::NoItem),
-        }
+        outcome_word(&found, item).ok_or(Refusal::NoItem)
     }
 }

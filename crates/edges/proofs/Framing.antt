@@ -1,6 +1,6 @@
 -- Frames by the steps of their records, and the first clause of a chain that catches.
-use Rattle.std.proofs.Common.{◌≡◌, ℕ, ◌+◌, ◌<◌, ◌≤◌, cond, eqb, List, [], map, length, get_or, drop, Some, None, Option, sym, refl, ap, ◌∙◌}
-use Rattle.std.proofs.lemmas.List.{at_drop_more, at_drop_all}
+use Rattle.std.proofs.Common.{◌≡◌, ℕ, ◌+◌, ◌<◌, cond, eqb, List, [], map, length, get_or, drop, Some, None, Option, sym, refl, ap, ◌∙◌}
+use Rattle.std.proofs.lemmas.List.{at_drop_more}
 use Rattle.std.proofs.lemmas.Bool.{eq-eqb, ne_eqb, cond-true, cond-false}
 use Rattle.words.specs.Words.{none, kind_of, exception}
 use Rattle.sheet.specs.declared.reader.Record.{Record}
@@ -10,7 +10,7 @@ use Rattle.sheet.specs.Layout.{records, record_at}
 use Rattle.sheet.specs.Steps.{step_at}
 use Rattle.rules.specs.Passing.{first_for, handler_of}
 use Rattle.rules.specs.Cuts.{cut_as, cut_or, cut, done_as, outcome_by, done_under}
-use Rattle.rules.specs.Places.{Place, done, running}
+use Rattle.rules.specs.Places.{Place, running}
 use Rattle.rules.specs.Terms.{Clause, Term, role_of}
 use Rattle.paths.specs.Paths.{head_of}
 use Rattle.paths.specs.declared.path.Head.{Head}
@@ -42,9 +42,6 @@ role_at ws rs r s x x_is s_is same = rw (x_is, s_is, same) (role_is ws (step_at 
 pub handled : (cs : List Clause) (a k : ℕ) (o : Option ℕ) → k ≡ kind_of a → k ≡ 3 → o ≡ first_for cs a → o ≡ handler_of cs a
 handled cs a k o k_is three h = h ∙ sym (cond-true (exception a) (first_for cs a) None (eq-eqb (kind_of a) 3 (sym k_is ∙ three)))
 
-pub unhandled : (cs : List Clause) (a k : ℕ) → k ≡ kind_of a → (k ≡ 3 → ⊥) → None ≡ handler_of cs a
-unhandled cs a k k_is other = sym (cond-false (exception a) (first_for cs a) None (ne_eqb (kind_of a) 3 (λ e. other (k_is ∙ e))))
-
 module _ (ws rs : List ℕ) (i r a : ℕ) (x : Record) (inside : i < records ws) (there : r ≡ none → ⊥) (read : x ≡ record_at rs r) (same : rs ≡ ws) where
   abbrev left : List Clause
   left = map (clause_at ws) (rest ws i r)
@@ -75,21 +72,7 @@ module _ (term : ℕ → Term) (fs : List ℕ) (k : ℕ) (inside : k < length fs
   cut_here a p e =
       at_drop_more (cut term a) fs k 0 inside ∙ ap (λ (o : Option Place). cut_or o (drop (k + 1) fs) (cut term a (drop (k + 1) fs))) e
 
-  pub cut_later : (a : ℕ) → cut_as (role_of (term (get_or fs k 0))) a ≡ None → cut term a (drop (k + 1) fs) ≡ cut term a (drop k fs)
-  cut_later a e =
-      sym (at_drop_more (cut term a) fs k 0 inside ∙ ap (λ (o : Option Place). cut_or o (drop (k + 1) fs) (cut term a (drop (k + 1) fs))) e)
-
   pub done_here : (h : Head) → running (head_of h) [] ≡ done_as (role_of (term (get_or fs k 0))) (get_or fs k 0)
       → running (head_of h) (drop (k + 1) fs) ≡ done_under term (drop k fs)
   done_here h e =
       ap (λ (p : Place). outcome_by (drop (k + 1) fs) (done_under term (drop (k + 1) fs)) p) e ∙ sym (at_drop_more (done_under term) fs k 0 inside)
-
-  pub done_later : done ≡ done_as (role_of (term (get_or fs k 0))) (get_or fs k 0) → done_under term (drop (k + 1) fs) ≡ done_under term (drop k fs)
-  done_later e =
-      ap (λ (p : Place). outcome_by (drop (k + 1) fs) (done_under term (drop (k + 1) fs)) p) e ∙ sym (at_drop_more (done_under term) fs k 0 inside)
-
-pub cut_nowhere : (term : ℕ → Term) (a : ℕ) (fs : List ℕ) (k : ℕ) → length fs ≤ k → cut term a (drop k fs) ≡ None
-cut_nowhere term a fs k h = at_drop_all (cut term a) fs k h
-
-pub done_nowhere : (term : ℕ → Term) (fs : List ℕ) (k : ℕ) → length fs ≤ k → done ≡ done_under term (drop k fs)
-done_nowhere term fs k h = sym (at_drop_all (done_under term) fs k h)

@@ -1,66 +1,33 @@
--- A path's edge and its branches, as the code puts them together.
-use Rattle.std.proofs.Common.{◌≡◌, ℕ, zero, suc, ◌≤◌, true, false, eqb, List, [], ◌∷◌, map, length, drop, Some, None, Option, sym, refl, ap, ◌∙◌}
+-- An edge's branches, as the code puts them together.
+use Rattle.std.proofs.Common.{◌≡◌, ℕ, zero, suc, true, false, eqb, List, [], ◌∷◌, map, length, Some, None, Option, sym, refl, ap, ◌∙◌, arith}
 use Rattle.std.proofs.lemmas.List.{length-map}
 use Rattle.std.proofs.lemmas.Bool.{eq-eqb, ne_eqb}
+use Rattle.std.proofs.lemmas.Option.{slice_get-map}
+use Rattle.std.specs.Bool.{then_some}
 use Rattle.std.specs.List.{slice_get}
 use Rattle.std.specs.Option.{option_map}
-use Rattle.words.specs.Edges.{Branch, leading_to}
-use Rattle.words.specs.Words.{none, payload_of, constant}
+use Rattle.words.specs.Edges.{leading_to}
+use Rattle.words.specs.Words.{none, payload_of}
 use Rattle.sheet.specs.declared.chains.Survey.{Survey}
 use Rattle.sheet.specs.declared.reader.Record.{Record}
-use Rattle.sheet.specs.Layout.{urge, record_at}
+use Rattle.sheet.specs.Layout.{record_at}
 use Rattle.sheet.specs.Chains.{chain, survey_of}
-use Rattle.rules.specs.Cuts.{Cut, cut, outcome_under, past_as}
-use Rattle.rules.specs.Descents.{leaf_action, leaf_branches, leaf_edge, path_edge, urging}
+use Rattle.rules.specs.Cuts.{outcome_under}
 use Rattle.rules.specs.Places.{Place}
 use Rattle.rules.specs.Rules.{branch_of}
-use Rattle.paths.specs.Paths.{words_of, head_of, path_of}
-use Rattle.paths.specs.Sheets.{assignment_at, way_at, ways_from, term_at}
-use Rattle.paths.specs.declared.path.Path.{Path}
+use Rattle.paths.specs.Paths.{words_of}
+use Rattle.paths.specs.Sheets.{way_at, ways_from, term_at}
 use Rattle.paths.specs.declared.path.Head.TheVariants.{Behaviour}
-use Rattle.edges.specs.Edges.{edge_of, outcomes_of, branch_by, branch_from}
-use Rattle.edges.specs.Frames.{aim, standing, cut_from}
+use Rattle.edges.specs.Edges.{outcomes_of, branch_by}
 use Rattle.edges.specs.Leaves.{branches_from}
 use Rattle.edges.specs.declared.edge.Edge.{Edge as OwnEdge}
 use Rattle.edges.specs.declared.frame.Goal.{Goal}
 use Rattle.edges.specs.declared.frame.Goal.TheVariants.{Done, At}
-use Rattle.edges.specs.declared.frame.Landing.{Landing}
 use Rattle.edges.specs.declared.leaf.Ways.{Ways}
 use Rattle.edges.specs.declared.leaf.Ways.TheVariants.{Lone, Chain}
-use Rattle.edges.specs.declared.passed.Way.{Way}
 use Rattle.edges.proofs.Chained.{chain-none}
 
-pub nth_map : {X Y : Type 0} (f : X → Y) (xs : List X) (i : ℕ) → slice_get (map f xs) i ≡ option_map f (slice_get xs i)
-nth_map f [] i = refl
-nth_map f (x ∷ xs) zero = refl
-nth_map f (x ∷ xs) (suc i) = nth_map f xs i
-
 module _ (ws : List ℕ) where
-  same_cut : (p : Path) (fs : List ℕ) (a : ℕ) (o : Option Cut) → fs ≡ words_of p.frames → a ≡ leaf_action (term_at ws) (head_of p.leaf)
-      → o ≡ cut (term_at ws) a fs → past_as o (term_at ws) (words_of p.frames) (leaf_edge (term_at ws) (urge ws) (path_of p)) ≡ path_edge (term_at ws) (urge ws) (path_of p)
-  same_cut p fs a o fs_is a_is e =
-      ap (λ (x : Option Cut). past_as x (term_at ws) (words_of p.frames) (leaf_edge (term_at ws) (urge ws) (path_of p)))
-      (e ∙ (ap (λ x. cut (term_at ws) x fs) a_is ∙ ap (λ xs. cut (term_at ws) (leaf_action (term_at ws) (head_of p.leaf)) xs) fs_is))
-
-  pub edge_cut : (p : Path) (fs : List ℕ) (a : ℕ) (l : Landing) (r : l.behind ≤ p.frames.count) → fs ≡ words_of p.frames
-      → a ≡ leaf_action (term_at ws) (head_of p.leaf) → Some (cut_from fs l) ≡ cut (term_at ws) a fs
-      → edge_of ws (record { action = 0; path = p; ways = Lone l.goal; behind = l.behind; reached = r }) ≡ path_edge (term_at ws) (urge ws) (path_of p)
-  edge_cut p fs a l r fs_is a_is e =
-      same_cut p fs a (Some (cut_from (words_of p.frames) l)) fs_is a_is (ap (λ xs. Some (cut_from xs l)) (sym fs_is) ∙ e)
-
-  pub edge_uncut : (p : Path) (fs : List ℕ) (a : ℕ) (w : Ways) (r : 0 ≤ p.frames.count) → fs ≡ words_of p.frames
-      → a ≡ leaf_action (term_at ws) (head_of p.leaf) → None ≡ cut (term_at ws) a fs
-      → branches_from ws w ≡ leaf_branches (term_at ws) (head_of p.leaf)
-      → edge_of ws (record { action = a; path = p; ways = w; behind = 0; reached = r }) ≡ path_edge (term_at ws) (urge ws) (path_of p)
-  edge_uncut p fs a w r fs_is a_is e b =
-      (λ i. record {
-        action = a_is i;
-        guard = (path_of p).whens;
-        deadline = constant (urge ws) ∷ urging (path_of p).urgents;
-        branches = map (leading_to (outcome_under (term_at ws) (words_of p.frames))) (b i);
-      })
-      ∙ same_cut p fs a None fs_is a_is e
-
   -- a branch read from record r
   pub way_done : (rs : List ℕ) (r : ℕ) (x : Record) (k : ℕ) → x ≡ record_at rs r → rs ≡ ws → k ≡ payload_of x.head → x.two ≡ none
       → branch_by ws (record { weight = k; assignments = x.one; goal = Done }) ≡ branch_of (way_at ws r)
@@ -84,38 +51,23 @@ module _ (ws : List ℕ) where
   chain_way rs first b w o w_is o_is same =
       ap (option_map (λ r. branch_of (way_at ws r))) (o_is ∙ ap (λ y. slice_get (chain y first) b) same)
       ∙ (twice (slice_get (chain ws first) b)
-      ∙ (ap (option_map branch_of) (sym (nth_map (way_at ws) (chain ws first) b))
-      ∙ (sym (nth_map branch_of (ways_from ws first) b) ∙ ap (λ (x : Ways). slice_get (branches_from ws x) b) (sym w_is))))
+      ∙ (ap (option_map branch_of) (sym (slice_get-map (way_at ws) (chain ws first) b))
+      ∙ (sym (slice_get-map branch_of (ways_from ws first) b) ∙ ap (λ (x : Ways). slice_get (branches_from ws x) b) (sym w_is))))
     where
       twice : (o : Option ℕ) → option_map (λ r. branch_of (way_at ws r)) o ≡ option_map branch_of (option_map (way_at ws) o)
       twice None = refl
       twice (Some r) = refl
 
-  pub lone_way : (g : Goal) (b : ℕ) (w : Ways) → w ≡ Lone g → b ≡ 0
-      → ◌≡◌ {A = Option (Branch Place)} (Some (branch_by ws (record { weight = 1; assignments = none; goal = g }))) (slice_get (branches_from ws w) b)
-  lone_way g b w w_is zero_is = rw (w_is, zero_is, chain-none ws none refl)
+  pub lone_way : (g : Goal) (b : ℕ) (w : Ways) → w ≡ Lone g
+      → option_map (branch_by ws) (then_some (eqb b 0) (record { weight = 1; assignments = none; goal = g })) ≡ slice_get (branches_from ws w) b
+  lone_way g zero w w_is = rw (w_is, chain-none ws none refl)
+  lone_way g (suc b) w w_is = let off : eqb (suc b) 0 ≡ false = ne_eqb (suc b) 0 (λ e. omega arith) in rw (w_is, off)
 
-  -- one of an edge's branches, from what it was before it passed frames
-  pub branch_landed : (e : OwnEdge) (b : ℕ) (fs : List ℕ) (w : Way) (l : Landing) (r : l.behind ≤ e.path.frames.count)
-      → Some (branch_by ws w) ≡ slice_get (branches_from ws e.ways) b
-      → fs ≡ words_of e.path.frames
-      → standing l.goal (drop l.behind fs) ≡ outcome_under (term_at ws) (drop e.behind fs) (aim w.goal)
-      → Some (branch_from ws (record { weight = w.weight; assignments = w.assignments; goal = l.goal; frames = e.path.frames; behind = l.behind; reached = r })) ≡ slice_get (outcomes_of ws e) b
-  branch_landed e b fs w l r way fs_is place =
-      let f : Place → Place = outcome_under (term_at ws) (drop e.behind (words_of e.path.frames)) in
-      let q : standing l.goal (drop l.behind (words_of e.path.frames)) ≡ f (aim w.goal) = rw fs_is at place in
-      ap (λ (p : Place). Some (record { weight = w.weight; assignments = map (assignment_at ws) (chain ws w.assignments); outcome = p })) q
-      ∙ (ap (option_map (leading_to f)) way ∙ sym (nth_map (leading_to f) (branches_from ws e.ways) b))
-
-  pub branch_missing : (e : OwnEdge) (b : ℕ) → None ≡ slice_get (branches_from ws e.ways) b → None ≡ slice_get (outcomes_of ws e) b
-  branch_missing e b h =
-      let f : Place → Place = outcome_under (term_at ws) (drop e.behind (words_of e.path.frames)) in
-      ap (option_map (leading_to f)) h ∙ sym (nth_map (leading_to f) (branches_from ws e.ways) b)
-
+  -- how many branches an edge has that has those of a chain
   pub chain_count : (rs : List ℕ) (first key : ℕ) (e : OwnEdge) (s : Survey) → e.ways ≡ Chain first → s ≡ survey_of rs key (chain rs first) → rs ≡ ws
       → s.length ≡ length (outcomes_of ws e)
   chain_count rs first key e s w_is s_is same =
-      let f : Place → Place = outcome_under (term_at ws) (drop e.behind (words_of e.path.frames)) in
+      let f : Place → Place = outcome_under (term_at ws) (words_of e.frames) in
       ap (λ (x : Survey). x.length) s_is
       ∙ (ap (λ y. length (chain y first)) same
       ∙ (sym (length-map (chain ws first) (way_at ws))

@@ -1,5 +1,6 @@
 -- The code's own values about frames, read as the rules' own.
-use Rattle.std.specs.Prelude.{ℕ, ◌≤◌, List, [], drop, Some, None, Option}
+use Rattle.std.specs.Prelude.{ℕ, List, []}
+use Rattle.bounded.specs.Listed.{listed}
 use Rattle.sheet.specs.declared.step.Step.{Step}
 use Rattle.sheet.specs.declared.step.Step.TheVariants.{Stop, Act, Break, Throw, Alt, Seq, Loop, Try, When, Urgent, Call, Link}
 use Rattle.rules.specs.Cuts.{Cut}
@@ -41,10 +42,8 @@ standing (At h) fs = running (head_of h) fs
 abbrev pub aim : Goal → Place
 aim g = standing g []
 
-abbrev pub cut_from : List ℕ → Landing → Cut
-cut_from fs l = record { goes = aim l.goal; rest = drop l.behind fs }
+abbrev pub landed : Landing → Place
+landed l = standing l.goal (listed l.frames)
 
--- no more frames are behind than there are
-abbrev pub Inside : ℕ → Option Landing → Type 0
-Inside n None = Unit {0}
-Inside n (Some l) = l.behind ≤ n
+abbrev pub cut_from : Landing → Cut
+cut_from l = record { goes = aim l.goal; rest = listed l.frames }

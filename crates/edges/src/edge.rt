@@ -1,6 +1,4 @@
 // An edge, and one of its branches.
-ghost use Rattle.std.specs.Prelude.{◌≤◌};
-
 use crate::frame::Goal;
 use crate::leaf::Ways;
 use paths::{Path, Stack};
@@ -10,20 +8,17 @@ use paths::{Path, Stack};
 pub struct Edge {
     pub action: u32,
     pub path: Path,
-    /// Its branches, before they pass the frames that are not behind.
+    /// Its branches, before they pass frames.
     pub(crate) ways: Ways,
-    /// How many of the frames were passed when the edge was cut.
-    pub(crate) behind: usize,
-    ghost reached: { behind ≤ path.frames.count },
+    /// The frames that its branches pass: those that were not left behind when the edge was cut.
+    pub(crate) frames: Stack,
 }
 
-/// A branch of an edge: its weight, the first of its assignments, and where it leads, under the frames that are not behind.
+/// A branch of an edge: its weight, the first of its assignments, and where it leads, under frames.
 #[derive(Clone, Copy)]
 pub struct Branch {
     pub weight: u32,
     pub assignments: u32,
     pub goal: Goal,
     pub(crate) frames: Stack,
-    pub(crate) behind: usize,
-    ghost reached: { behind ≤ frames.count },
 }

@@ -1,16 +1,19 @@
 // What frames do with an edge: a loop cuts a break, a try cuts what it catches, and what is done goes on at a seq or a loop.
-ghost use Rattle.std.specs.Prelude.{◌≡◌, ◌≤◌, [], length, drop};
+ghost use Rattle.std.specs.Prelude.{◌≡◌, []};
 ghost use Rattle.std.specs.Option.{option_map};
+ghost use Rattle.bounded.specs.Listed.{listed};
 ghost use Rattle.rules.specs.Cuts.{cut_as, cut, done_as, done_under, outcome_under};
 ghost use Rattle.rules.specs.Passing.{handler_of};
 ghost use Rattle.rules.specs.Terms.{role_of};
 ghost use Rattle.paths.specs.Sheets.{clauses_from, term_of, term_at};
-ghost use Rattle.edges.specs.Frames.{role_by, role_from, aim, standing, cut_from, Inside};
+ghost use Rattle.edges.specs.Frames.{role_by, role_from, aim, standing, landed, cut_from};
 
 use model::Model;
-use paths::Head;
+use paths::{Head, Stack};
 use sheet::{Reader, Step};
 use words::{NONE, kind};
+
+// Kept: these numbers are the stated format of an action's word.
 
 /// The action of a break.
 pub(crate) const BREAK: u32 = 0x4000_0000;
@@ -19,17 +22,18 @@ pub(crate) const BREAK: u32 = 0x4000_0000;
 const EXCEPTION: u32 = 3;
 
 /// Where an outcome is, but for its frames: done, or at a head.
+// Kept: as an Option of a head it would stand inside another Option, as in `cut_at`.
 #[derive(Clone, Copy)]
 pub enum Goal {
     Done,
     At(Head),
 }
 
-/// Where an edge goes on after some frames: how many of them it has left behind.
+/// Where an edge goes on after some frames, and the frames that it has not left behind.
 #[derive(Clone, Copy)]
 pub(crate) struct Landing {
     pub goal: Goal,
-    pub behind: usize,
+    pub frames: Stack,
 }
 
 /// What a record does as a frame.
@@ -72,6 +76,7 @@ fn handler(model: &Model, first: u32, action: u32) -> Option<u32>
         return None;
     }
     let reader = model.reader();
+    // Kept: each record of a chain names the next one, and the reader has no iterator over them.
     let mut link = first;
     for _step in 0..reader.records() {
         if link == NONE {
@@ -91,34 +96,25 @@ fn cut_at(model: &Model, frame: u32, action: u32) -> Option<Goal>
     ensures { option_map aim result ≡ cut_as (role_of (term_at model.now.words.items frame)) action }
 {
     match role_of(model, frame) {
-        Role::Again => {
-            if action == BREAK {
-                return Some(Goal::Done);
-            }
-            None
+        Role::Again => (action == BREAK).then_some(Goal::Done),
+        Role::Catching(first) => {
+            let record = handler(model, first, action)?;
+            Some(Goal::At(Head::Behaviour(record)))
         }
-        Role::Catching(first) => match handler(model, first, action) {
-            Some(record) => Some(Goal::At(Head::Behaviour(record))),
-            None => None,
-        },
         Role::Onward(_) | Role::Unframed => None,
     }
 }
 
-/// The first of the frames that cuts an edge with an action: where it sends the edge, and the frames up to it are behind.
-pub(crate) fn cut(model: &Model, frames: &[u32], action: u32) -> Option<Landing>
-    ensures within { Inside (length frames.now) result }
-    ensures place { option_map (cut_from frames.now) result ≡ Rattle.rules.specs.Cuts.cut (term_at model.now.words.items) action frames.now }
+/// The first of the frames that cuts an edge with an action: where it sends the edge, and the frames after it.
+pub(crate) fn cut(model: &Model, frames: &Stack, action: u32) -> Option<Landing>
+    ensures { option_map cut_from result ≡ Rattle.rules.specs.Cuts.cut (term_at model.now.words.items) action (listed frames.now) }
 {
-    for (at, frame) in frames.iter().enumerate() {
-        match cut_at(model, *frame, action) {
-            Some(goal) => {
-                return Some(Landing {
-                    goal,
-                    behind: at + 1,
-                });
-            }
-            None => {}
+    for (at, frame) in frames.as_slice().iter().enumerate() {
+        if let Some(goal) = cut_at(model, *frame, action) {
+            return Some(Landing {
+                goal,
+                frames: frames.after(at + 1),
+            });
         }
     }
     None
@@ -135,37 +131,33 @@ fn done_at(model: &Model, frame: u32) -> Goal
     }
 }
 
-/// Where what is done goes on under the frames after the first few: at the first seq or loop among them.
-fn land_done(model: &Model, frames: &[u32], behind: usize) -> Landing
-    requires { behind ≤ length frames.now }
-    ensures place { standing result.goal (drop result.behind frames.now) ≡ done_under (term_at model.now.words.items) (drop behind frames.now) }
-    ensures within { result.behind ≤ length frames.now }
+/// Where what is done goes on under frames: at the first seq or loop among them.
+fn land_done(model: &Model, frames: &Stack) -> Landing
+    ensures { landed result ≡ done_under (term_at model.now.words.items) (listed frames.now) }
 {
-    for at in behind..frames.len() {
-        match done_at(model, frames[at]) {
-            Goal::At(head) => {
-                return Landing {
-                    goal: Goal::At(head),
-                    behind: at + 1,
-                };
-            }
-            Goal::Done => {}
+    for (at, frame) in frames.as_slice().iter().enumerate() {
+        if let Goal::At(head) = done_at(model, *frame) {
+            return Landing {
+                goal: Goal::At(head),
+                frames: frames.after(at + 1),
+            };
         }
     }
     Landing {
         goal: Goal::Done,
-        behind: frames.len(),
+        frames: *frames,
     }
 }
 
-/// Where an outcome is under the frames that are not yet behind.
-pub(crate) fn land(model: &Model, frames: &[u32], from: Landing) -> Landing
-    requires { from.behind ≤ length frames.now }
-    ensures place { standing result.goal (drop result.behind frames.now) ≡ outcome_under (term_at model.now.words.items) (drop from.behind frames.now) (aim from.goal) }
-    ensures within { result.behind ≤ length frames.now }
+/// Where an outcome is under frames.
+pub(crate) fn land(model: &Model, frames: &Stack, goal: Goal) -> Landing
+    ensures { landed result ≡ outcome_under (term_at model.now.words.items) (listed frames.now) (aim goal) }
 {
-    match from.goal {
-        Goal::Done => land_done(model, frames, from.behind),
-        Goal::At(_) => from,
+    match goal {
+        Goal::Done => land_done(model, frames),
+        Goal::At(_) => Landing {
+            goal,
+            frames: *frames,
+        },
     }
 }

@@ -11,6 +11,8 @@ use paths::Head;
 use sheet::Step;
 use words::NONE;
 
+// Kept: these numbers are the stated format of an action's word.
+
 /// The silent action.
 pub(crate) const TAU: u32 = 0;
 

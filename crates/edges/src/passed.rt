@@ -1,23 +1,25 @@
 // The edge of a path, and its branches.
-ghost use Rattle.std.specs.Prelude.{◌≡◌, length, drop};
+ghost use Rattle.std.specs.Prelude.{◌≡◌, length};
 ghost use Rattle.std.specs.Option.{option_map};
 ghost use Rattle.std.specs.List.{slice_get};
+ghost use Rattle.bounded.specs.Listed.{listed};
 ghost use Rattle.sheet.specs.Layout.{urge};
 ghost use Rattle.rules.specs.Descents.{path_edge};
 ghost use Rattle.rules.specs.Rules.{branch_of};
-ghost use Rattle.paths.specs.Paths.{path_of, words_of};
+ghost use Rattle.paths.specs.Paths.{path_of};
 ghost use Rattle.paths.specs.Sheets.{way_at, term_at};
 ghost use Rattle.edges.specs.Leaves.{branches_from};
 ghost use Rattle.edges.specs.Edges.{edge_of, outcomes_of, branch_from, branch_by};
 
 use crate::edge::{Branch, Edge};
-use crate::frame::{Goal, Landing, cut, land};
+use crate::frame::{Goal, cut, land};
 use crate::leaf::{TAU, Ways, leaf_action, leaf_ways};
 use model::Model;
 use paths::{Head, Path};
 use words::{NONE, payload};
 
 /// A branch before it passes frames.
+// Kept: a branch has these fields too, but its goal stands under the frames beside it.
 #[derive(Clone, Copy)]
 struct Way {
     weight: u32,
@@ -31,22 +33,19 @@ pub fn edge_of(model: &Model, path: Path) -> Edge
     ensures same { result.path ≡ path }
 {
     let action = leaf_action(model, path.leaf);
-    match cut(model, path.frames.words(), action) {
-        Some(landing) => {
-            return Edge {
-                action: TAU,
-                path,
-                ways: Ways::Lone(landing.goal),
-                behind: landing.behind,
-            };
-        }
-        None => {}
+    if let Some(landing) = cut(model, &path.frames, action) {
+        return Edge {
+            action: TAU,
+            path,
+            ways: Ways::Lone(landing.goal),
+            frames: landing.frames,
+        };
     }
     Edge {
         action,
         path,
         ways: leaf_ways(model, path.leaf),
-        behind: 0,
+        frames: path.frames,
     }
 }
 
@@ -72,20 +71,15 @@ fn way_at(model: &Model, ways: Ways, branch: usize) -> Option<Way>
 {
     match ways {
         Ways::Nothing => None,
-        Ways::Lone(goal) => {
-            if branch != 0 {
-                return None;
-            }
-            Some(Way {
-                weight: 1,
-                assignments: NONE,
-                goal,
-            })
+        Ways::Lone(goal) => (branch == 0).then_some(Way {
+            weight: 1,
+            assignments: NONE,
+            goal,
+        }),
+        Ways::Chain(first) => {
+            let number = model.reader().link(first, branch)?;
+            Some(read_way(model, number))
         }
-        Ways::Chain(first) => match model.reader().link(first, branch) {
-            Some(number) => Some(read_way(model, number)),
-            None => None,
-        },
     }
 }
 
@@ -105,31 +99,22 @@ impl Edge {
     pub fn branch(&self, model: &Model, branch: usize) -> Option<Branch>
         ensures { option_map (branch_from model.now.words.items) result ≡ slice_get (outcomes_of model.now.words.items self.now) branch }
     {
-        match way_at(model, self.ways, branch) {
-            Some(way) => {
-                let from = Landing {
-                    goal: way.goal,
-                    behind: self.behind,
-                };
-                let landing = land(model, self.path.frames.words(), from);
-                Some(Branch {
-                    weight: way.weight,
-                    assignments: way.assignments,
-                    goal: landing.goal,
-                    frames: self.path.frames,
-                    behind: landing.behind,
-                })
-            }
-            None => None,
-        }
+        let way = way_at(model, self.ways, branch)?;
+        let landing = land(model, &self.frames, way.goal);
+        Some(Branch {
+            weight: way.weight,
+            assignments: way.assignments,
+            goal: landing.goal,
+            frames: landing.frames,
+        })
     }
 }
 
 impl Branch {
     /// The frames around the branch's goal.
     pub fn frames(&self) -> &[u32]
-        ensures { result.now ≡ drop self.now.behind (words_of self.now.frames) }
+        ensures { result.now ≡ listed self.now.frames }
     {
-        &self.frames.words()[self.behind..]
+        self.frames.as_slice()
     }
 }

@@ -1,7 +1,8 @@
 -- The ceilings and the alphabet of a behaviour, over all records of its sheet, ws, with its work table, t.
 --
 -- greatest f n: the greatest of f 0 to f (n - 1), or 0. any f n: whether f holds of one of them.
-use Rattle.std.specs.Prelude.{ℕ, zero, suc, ◌+◌, max, Bool, false, ◌&&◌, ◌||◌, List, ◌==◌, slice_index}
+use Rattle.std.specs.Prelude.{ℕ, ◌+◌, max, Bool, false, ◌&&◌, List, fold, ◌==◌, slice_index}
+use Rattle.std.specs.List.{range_with_len, list_any}
 use Rattle.words.specs.Words.{observable}
 use Rattle.sheet.specs.declared.step.Step.{Step}
 use Rattle.sheet.specs.declared.step.Step.TheVariants.{Stop, Act, Break, Throw, Alt, Seq, Loop, Try, When, Urgent, Call, Link}
@@ -12,12 +13,10 @@ use Rattle.descent.specs.Sizes.{span_of}
 use Rattle.part.specs.declared.Ceilings.{Ceilings}
 
 abbrev pub greatest : (ℕ → ℕ) → ℕ → ℕ
-greatest f zero = 0
-greatest f (suc n) = max (f n) (greatest f n)
+greatest f n = fold (λ most r. max most (f r)) 0 (range_with_len 0 n)
 
 abbrev pub any : (ℕ → Bool) → ℕ → Bool
-any f zero = false
-any f (suc n) = any f n || f n
+any f n = list_any f (range_with_len 0 n)
 
 -- the total weight of an act's branches
 abbrev pub weight_by : List ℕ → Step → ℕ

@@ -15,11 +15,11 @@ const SIZE: usize = 128;
 fn greatest_span(model: &Model) -> u32
     ensures { result ≡ greatest_span model.now.words.items model.now.table.items }
 {
-    let mut most = 0;
-    for number in 0..model.reader().records() {
-        most = span(model.size(number)).max(most);
-    }
-    most
+    let numbers = 0..model.reader().records();
+    numbers
+        .map(|number| span(model.size(number)))
+        .max()
+        .unwrap_or(0)
 }
 
 /// The total weight of an act's branches.
@@ -37,11 +37,12 @@ fn greatest_weight(model: &Model) -> usize
     ensures { result ≡ greatest_weight model.now.words.items }
 {
     let reader = model.reader();
-    let mut most = 1;
-    for number in 0..reader.records() {
-        most = step_weight(&reader, reader.step(number)).max(most);
-    }
-    most as usize
+    let numbers = 0..reader.records();
+    let most = numbers
+        .map(|number| step_weight(&reader, reader.step(number)))
+        .max()
+        .unwrap_or(0);
+    most.max(1) as usize
 }
 
 /// The ceilings of a model's behaviour.
@@ -59,24 +60,13 @@ pub fn ceilings_in(model: &Model) -> Ceilings
 fn is_act(step: Step, action: u32) -> bool
     ensures { result ≡ acts action step }
 {
-    match step {
-        Step::Act(own, _) => own == action,
-        _ => false,
-    }
+    matches!(step, Step::Act(own, _) if own == action)
 }
 
 /// Whether an action is observable and some act's.
 pub fn knows_in(model: &Model, action: u32) -> bool
     ensures { result ≡ knows_in model.now.words.items action }
 {
-    if !is_observable(action) {
-        return false;
-    }
     let reader = model.reader();
-    for number in 0..reader.records() {
-        if is_act(reader.step(number), action) {
-            return true;
-        }
-    }
-    false
+    is_observable(action) && (0..reader.records()).any(|number| is_act(reader.step(number), action))
 }

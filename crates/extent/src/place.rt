@@ -3,35 +3,24 @@ ghost use Rattle.std.specs.Prelude.{◌≡◌};
 ghost use Rattle.paths.specs.Places.{is_behaviour, is_frame_step, behaviour_at, frame_at, is_head_word, is_frame_word, are_frame_words, is_running, is_place};
 
 use model::Model;
-use paths::{DONE, FAILED};
+use paths::CodeWord;
 use rules::most_frames;
 use sheet::Step;
-use words::{kind, payload};
-
-/// The kinds of the words that name a record and a frame.
-const RECORD_KIND: u32 = 9;
-
-const FRAME_KIND: u32 = 10;
 
 fn is_behaviour_step(step: Step) -> bool
     ensures { result ≡ is_behaviour step }
 {
-    match step {
-        Step::Link => false,
-        _ => true,
-    }
+    !matches!(step, Step::Link)
 }
 
 fn is_frame_step(step: Step) -> bool
     ensures { result ≡ is_frame_step step }
 {
-    match step {
-        Step::Seq(_, _) | Step::Loop(_) | Step::Try(_, _) => true,
-        _ => false,
-    }
+    matches!(step, Step::Seq(_, _) | Step::Loop(_) | Step::Try(_, _))
 }
 
 /// Whether a record is a behaviour of the sheet.
+#[tactic(auto, unfolding(paths::specs::Places::behaviour_at))]
 fn is_behaviour(model: &Model, number: u32) -> bool
     ensures { result ≡ behaviour_at model.now.words.items number }
 {
@@ -40,6 +29,7 @@ fn is_behaviour(model: &Model, number: u32) -> bool
 }
 
 /// Whether a record is a frame.
+#[tactic(auto, unfolding(paths::specs::Places::frame_at))]
 fn is_frame(model: &Model, number: u32) -> bool
     ensures { result ≡ frame_at model.now.words.items number }
 {
@@ -49,37 +39,33 @@ fn is_frame(model: &Model, number: u32) -> bool
 fn is_head_word(model: &Model, word: u32) -> bool
     ensures { result ≡ is_head_word model.now.words.items word }
 {
-    word == FAILED || kind(word) == RECORD_KIND && is_behaviour(model, payload(word))
+    match CodeWord::try_from(word) {
+        Ok(CodeWord::Failed) => true,
+        Ok(CodeWord::Record(number)) => is_behaviour(model, number),
+        Ok(CodeWord::Done | CodeWord::Frame(_)) | Err(_) => false,
+    }
 }
 
 fn is_frame_word(model: &Model, word: u32) -> bool
     ensures { result ≡ is_frame_word model.now.words.items word }
 {
-    kind(word) == FRAME_KIND && is_frame(model, payload(word))
+    match CodeWord::try_from(word) {
+        Ok(CodeWord::Frame(number)) => is_frame(model, number),
+        Ok(CodeWord::Done | CodeWord::Failed | CodeWord::Record(_)) | Err(_) => false,
+    }
 }
 
 fn are_frame_words(model: &Model, words: &[u32]) -> bool
     ensures { result ≡ are_frame_words model.now.words.items words.now }
 {
-    for word in words {
-        if !is_frame_word(model, *word) {
-            return false;
-        }
-    }
-    true
+    words.iter().all(|word| is_frame_word(model, *word))
 }
 
 /// Whether a head word and frame words are the code of a place.
 fn is_running(model: &Model, head: u32, frames: &[u32]) -> bool
     ensures { result ≡ is_running model.now.words.items head frames.now }
 {
-    if !is_head_word(model, head) {
-        return false;
-    }
-    if frames.len() > most_frames() {
-        return false;
-    }
-    are_frame_words(model, frames)
+    is_head_word(model, head) && frames.len() <= most_frames() && are_frame_words(model, frames)
 }
 
 /// Whether words are the code of a place of a model's behaviour.
@@ -89,8 +75,10 @@ pub fn is_place_in(model: &Model, code: &[u32]) -> bool
     let [head, frames @ ..] = code else {
         return false;
     };
-    if *head == DONE {
-        return frames.len() == 0;
+    match CodeWord::try_from(*head) {
+        Ok(CodeWord::Done) => frames.is_empty(),
+        Ok(CodeWord::Failed | CodeWord::Record(_) | CodeWord::Frame(_)) | Err(_) => is_running(
+            model, *head, frames,
+        ),
     }
-    is_running(model, *head, frames)
 }

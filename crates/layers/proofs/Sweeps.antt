@@ -1,33 +1,16 @@
 -- Sweeping over the pairs of a renaming, qs: what the pair in hand, at i, tells of all of them.
-use Rattle.std.proofs.Common.{◌≡◌, ℕ, ◌+◌, ◌<◌, ◌≤◌, Bool, true, false, not, ◌&&◌, ◌||◌, eqb, List, length, get_or, drop, Some, None, Ok, sym, refl, ap, ◌∙◌, arith}
+use Rattle.std.proofs.Common.{◌≡◌, ℕ, ◌+◌, ◌<◌, ◌≤◌, Bool, true, false, not, ◌&&◌, ◌||◌, eqb, List, length, get_or, drop, Ok, sym, refl, ap, ◌∙◌, arith}
 use Rattle.std.proofs.lemmas.List.{at_drop_more, at_drop_all}
-use Rattle.std.proofs.lemmas.Bool.{eq-eqb, ne_eqb, and_from, and_left, and_right, or_from, or_left, or_right, not_from_true, cond-true, cond-false}
+use Rattle.std.proofs.lemmas.Bool.{eq-eqb, ne_eqb, and_from, and_left, and_right, or_from, or_left, or_right, not_from_true}
 use Rattle.words.specs.Words.{observable}
 use Rattle.part.specs.Automata.{Meaning}
 use Rattle.part.specs.Questions.{knows_of}
 use Rattle.layers.specs.RenamedParts.{known_source, knows_renamed, renamed}
-use Rattle.layers.specs.Renamings.{pairing, target_of, is_source}
+use Rattle.layers.specs.Renamings.{pairing, is_source}
 use Rattle.layers.specs.declared.pair.Pair.{Pair}
 
 abbrev at : List Pair → ℕ → Pair
 at qs i = get_or qs i (pairing 0 0)
-
--- Looking for the pair with a source, a, with no such pair before i.
-module _ (qs : List Pair) (i a : ℕ) (swept : target_of (drop i qs) a ≡ target_of qs a) where
-  pub target_here : i < length qs → (at qs i).source ≡ a → target_of qs a ≡ Some (at qs i).target
-  target_here l e =
-      sym swept
-      ∙ (at_drop_more (λ rs. target_of rs a) qs i (pairing 0 0) l
-      ∙ cond-true (eqb (at qs i).source a) (Some (at qs i).target) (target_of (drop (i + 1) qs) a) (eq-eqb _ _ e))
-
-  pub target_later : i < length qs → ((at qs i).source ≡ a → ⊥) → target_of (drop (i + 1) qs) a ≡ target_of qs a
-  target_later l e =
-      sym (at_drop_more (λ rs. target_of rs a) qs i (pairing 0 0) l
-      ∙ cond-false (eqb (at qs i).source a) (Some (at qs i).target) (target_of (drop (i + 1) qs) a) (ne_eqb _ _ e))
-      ∙ swept
-
-  pub target_nowhere : length qs ≤ i → target_of qs a ≡ None
-  target_nowhere l = sym swept ∙ at_drop_all (λ rs. target_of rs a) qs i l
 
 -- A part that answers is not oversized.
 told : (M : Meaning) (a : ℕ) (x : Bool) → Ok x ≡ knows_of M a → eqb M.automaton.ceilings.edges 0 ≡ false

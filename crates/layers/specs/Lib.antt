@@ -1,4 +1,3 @@
-pub mod Entries
 pub mod ExtendedParts
 pub mod Extensions
 pub mod Layers

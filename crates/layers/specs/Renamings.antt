@@ -5,7 +5,8 @@
 -- target_of: the target of the pair with a source; image: what an action becomes, itself where it has no pair.
 -- All pairs are applied at once: a target is not renamed again.
 -- adding: what the table answers to one pair more; added: the pairs that it has then.
-use Rattle.std.specs.Prelude.{ℕ, Bool, true, cond, not, ◌&&◌, ◌||◌, List, [], ◌∷◌, is_some, Some, None, Err, Option, Result, ◌==◌}
+use Rattle.std.specs.Prelude.{ℕ, Bool, true, cond, not, ◌&&◌, ◌||◌, List, [], ◌∷◌, is_some, Some, None, Err, Option, Result, ◌==◌, find}
+use Rattle.std.specs.Option.{option_map}
 use Rattle.words.specs.Words.{tau, observable, exception}
 use Rattle.words.specs.declared.Refusal.{Refusal}
 use Rattle.words.specs.declared.Refusal.TheVariants.{WrongKind, SourcePresent}
@@ -20,8 +21,7 @@ right p =
     cond (observable p.source) (observable p.target || p.target == tau) (exception p.source && exception p.target)
 
 abbrev pub target_of : List Pair → ℕ → Option ℕ
-target_of [] a = None
-target_of (p ∷ ps) a = cond (p.source == a) (Some p.target) (target_of ps a)
+target_of ps a = option_map (λ (p : Pair). p.target) (find (λ (p : Pair). p.source == a) ps)
 
 abbrev pub is_source : List Pair → ℕ → Bool
 is_source ps a = is_some (target_of ps a)

@@ -1,6 +1,6 @@
 // A part that knows more actions.
 ghost use Rattle.std.specs.Prelude.{◌≡◌};
-ghost use Rattle.layers.specs.Entries.{entries_of};
+ghost use Rattle.bounded.specs.Listed.{listed};
 ghost use Rattle.layers.specs.ExtendedParts.{AlphabetIsAdded};
 ghost use Rattle.layers.specs.Layers.{extended_meaning};
 ghost use Rattle.layers.specs.LayersLawful.{extended_lawful};
@@ -22,7 +22,7 @@ impl<P: Part> Extended<P> {
     /// An action is known if the part knows it or it is an observable action of the table.
     pub fn new(part: P, table: Extension) -> Extended<P>
         ensures made { result ≡ record { part = part; table = table } }
-        ensures alphabet { AlphabetIsAdded (P.Part.meaning part) (entries_of table.actions) }
+        ensures alphabet { AlphabetIsAdded (P.Part.meaning part) (listed table.actions) }
     {
         Extended { part, table }
     }
@@ -31,7 +31,7 @@ impl<P: Part> Extended<P> {
 impl<P: Part> Part for Extended<P> {
     ghost meaning = { extended_meaning P.Part.meaning };
 
-    ghost lawful = { λ s. extended_lawful (P.Part.meaning s.part) (entries_of s.table.actions) (P.Part.lawful s.part) };
+    ghost lawful = { λ s. extended_lawful (P.Part.meaning s.part) (listed s.table.actions) (P.Part.lawful s.part) };
 
     fn ceilings(&self) -> Ceilings {
         self.part.ceilings()

@@ -5,6 +5,8 @@ ghost use Rattle.layers.specs.Renamings.{right};
 
 use words::{is_observable, kind};
 
+// Kept: these numbers are the stated format of an action's word.
+
 /// The silent action.
 const TAU: u32 = 0;
 
@@ -12,7 +14,7 @@ const TAU: u32 = 0;
 const EXCEPTION: u32 = 3;
 
 /// An action and what it is renamed to.
-#[derive(Clone, Copy)]
+#[derive(Clone, Copy, Default)]
 pub(crate) struct Pair {
     pub source: u32,
     pub target: u32,

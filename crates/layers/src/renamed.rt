@@ -1,6 +1,6 @@
 // A part whose actions are renamed.
 ghost use Rattle.std.specs.Prelude.{◌≡◌};
-ghost use Rattle.layers.specs.Entries.{entries_of};
+ghost use Rattle.bounded.specs.Listed.{listed};
 ghost use Rattle.layers.specs.Layers.{renamed_meaning};
 ghost use Rattle.layers.specs.RenamedParts.{AlphabetIsImage};
 ghost use Rattle.layers.specs.LayersLawful.{renamed_lawful};
@@ -22,7 +22,7 @@ impl<P: Part> Renamed<P> {
     /// An action is known if it is observable and the part knows an action that becomes it.
     pub fn new(part: P, table: Renaming) -> Renamed<P>
         ensures made { result ≡ record { part = part; table = table } }
-        ensures alphabet { AlphabetIsImage (P.Part.meaning part) (entries_of table.pairs) }
+        ensures alphabet { AlphabetIsImage (P.Part.meaning part) (listed table.pairs) }
     {
         Renamed { part, table }
     }
@@ -31,7 +31,7 @@ impl<P: Part> Renamed<P> {
 impl<P: Part> Part for Renamed<P> {
     ghost meaning = { renamed_meaning P.Part.meaning };
 
-    ghost lawful = { λ s. renamed_lawful (P.Part.meaning s.part) (entries_of s.table.pairs) s.table.valid (P.Part.lawful s.part) };
+    ghost lawful = { λ s. renamed_lawful (P.Part.meaning s.part) (listed s.table.pairs) s.table.valid (P.Part.lawful s.part) };
 
     fn ceilings(&self) -> Ceilings {
         self.part.ceilings()

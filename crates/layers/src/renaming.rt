@@ -1,6 +1,6 @@
 // The table of a renaming.
 ghost use Rattle.std.specs.Prelude.{◌≡◌, true, []};
-ghost use Rattle.layers.specs.Entries.{entries_of};
+ghost use Rattle.bounded.specs.Listed.{listed};
 ghost use Rattle.layers.specs.Renamings.{sound, pairing, target_of, is_source, image, adding, added};
 
 use crate::pair::Pair;
@@ -13,28 +13,24 @@ use words::Refusal;
 #[derive(Drop)]
 pub struct Renaming {
     pairs: Table<Pair>,
-    ghost valid: { sound (entries_of pairs) ≡ true },
+    ghost valid: { sound (listed pairs) ≡ true },
 }
 
 impl Renaming {
     /// No pairs: every action keeps its name.
     pub fn new() -> Renaming
-        ensures { entries_of result.pairs ≡ [] }
+        ensures { listed result.pairs ≡ [] }
     {
-        let unread = Pair {
-            source: 0,
-            target: 0,
-        };
         Renaming {
-            pairs: Table::new(unread),
+            pairs: Table::new(),
         }
     }
 
     /// Adds a pair. Refused, and nothing changes, where the kinds do not fit, then where the source has a pair, then
     /// where the table is full.
     pub fn add(&mut self, source: u32, target: u32) -> Result<(), Refusal>
-        ensures answer { result ≡ adding (entries_of self.old.pairs) (pairing source target) }
-        ensures after { entries_of self.new.pairs ≡ added (entries_of self.old.pairs) (pairing source target) }
+        ensures answer { result ≡ adding (listed self.old.pairs) (pairing source target) }
+        ensures after { listed self.new.pairs ≡ added (listed self.old.pairs) (pairing source target) }
     {
         let pair = Pair { source, target };
         if !pair.is_right() {
@@ -43,42 +39,37 @@ impl Renaming {
         if self.is_source(source) {
             return Err(Refusal::SourcePresent);
         }
-        self.pairs.push(pair)
+        self.pairs.try_push(pair).map_err(|_| Refusal::TableFull)
     }
 
     /// The pairs, in the order in which they were added.
     pub(crate) fn pairs(&self) -> &[Pair]
-        ensures { result.now ≡ entries_of self.now.pairs }
+        ensures { result.now ≡ listed self.now.pairs }
     {
-        self.pairs.entries()
+        self.pairs.as_slice()
     }
 
     /// What an action is renamed to; itself where it has no pair.
     pub(crate) fn image(&self, action: u32) -> u32
-        ensures { result ≡ image (entries_of self.now.pairs) action }
+        ensures { result ≡ image (listed self.now.pairs) action }
     {
-        match self.target_of(action) {
-            Some(target) => target,
-            None => action,
-        }
+        self.target_of(action).unwrap_or(action)
     }
 
     /// Whether an action has a pair.
     pub(crate) fn is_source(&self, action: u32) -> bool
-        ensures { result ≡ is_source (entries_of self.now.pairs) action }
+        ensures { result ≡ is_source (listed self.now.pairs) action }
     {
         self.target_of(action).is_some()
     }
 
     /// The target of the pair with a source.
     fn target_of(&self, source: u32) -> Option<u32>
-        ensures { result ≡ target_of (entries_of self.now.pairs) source }
+        ensures { result ≡ target_of (listed self.now.pairs) source }
     {
-        for pair in self.pairs() {
-            if pair.source == source {
-                return Some(pair.target);
-            }
-        }
-        None
+        self.pairs()
+            .iter()
+            .find(|pair| pair.source == source)
+            .map(|pair| pair.target)
     }
 }

@@ -1,33 +1,26 @@
 -- Descents that begin at a place's code.
-use Rattle.std.proofs.Common.{◌≡◌, ℕ, ◌-◌, ◌<◌, ◌≤◌, Bool, true, false, cond, eqb, List, [], ◌∷◌, ◌++◌, map, length, get_or, take, drop, Some, None, Option, sym, refl, ap, ◌∙◌, subst, arith}
+use Rattle.std.proofs.Common.{◌≡◌, ℕ, ◌-◌, ◌<◌, ◌≤◌, Bool, true, false, cond, eqb, List, [], ◌∷◌, map, length, get_or, take, drop, Some, None, Option, sym, refl, ap, ◌∙◌, subst, arith}
 use Rattle.std.proofs.lemmas.List.{take_rest, length-take-le, nil_from_length}
-use Rattle.std.proofs.lemmas.Bool.{cond-false, ne_eqb}
 use Rattle.std.specs.Option.{option_map}
 use Rattle.words.specs.Words.{payload_of, done as done_word, failed as failed_word}
 use Rattle.rules.specs.Descents.{Path as Way, arriving, within, descend, path_to}
 use Rattle.rules.specs.Places.{failed, behaviour, done, running}
-use Rattle.paths.specs.Paths.{words_of, path_of, found, Descended, from_word}
+use Rattle.paths.specs.Paths.{words_of, path_of, from_word}
 use Rattle.paths.specs.Places.{place_of}
 use Rattle.paths.specs.Sheets.{term_at, depth_at, span_at}
 use Rattle.paths.specs.declared.path.Path.{Path}
-use Rattle.paths.specs.declared.stack.Stack.{Stack}
+use Rattle.bounded.specs.declared.bounded.Bounded.{Bounded}
 use Rattle.paths.proofs.Loading.{Loaded}
 use Rattle.paths.proofs.Measures.{shallow}
 use Rattle.paths.proofs.PathsRight.{Within, PathRight, arriving_is, paths_good}
 
-pub counts : (s : Stack) → length (words_of s) ≡ s.count
-counts s = length-take-le s.count s.words (omega (arith, s.whole, s.fits))
+pub counts : (s : Bounded ℕ 128) → length (words_of s) ≡ s.count
+counts s = length-take-le s.count s.entries (omega (arith, s.whole, s.fits))
 
 -- a list that has a first element
 pub split : (xs : List ℕ) → 1 ≤ length xs → xs ≡ get_or xs 0 0 ∷ take (length xs - 1) (drop 1 xs)
 split [] h = absurd (omega arith)
 split (x ∷ xs) h = ap (λ ys. x ∷ ys) (sym (take_rest (x ∷ xs) 1))
-
--- a path with more frames around it
-pub extended : (p : Path) (s : Stack) (fs : List ℕ) → words_of s ≡ words_of p.frames ++ fs
-    → ◌≡◌ {A = Option Way} (Some (path_of (record { leaf = p.leaf; frames = s; whens = p.whens; urgents = p.urgents }))) (Some (within fs (path_of p)))
-extended p s fs h =
-    ap (λ xs. Some (record { leaf = (path_of p).leaf; frames = xs; whens = (path_of p).whens; urgents = (path_of p).urgents })) h
 
 module _ (ws t : List ℕ) where
   pub from_code : (w : ℕ) (fs : List ℕ) (i : ℕ) → option_map (within (map payload_of fs)) (from_word ws t w i) ≡ path_to (term_at ws) (span_at t) 65 (place_of (w ∷ fs)) i
@@ -55,13 +48,6 @@ module _ (ws t : List ℕ) where
       ap (λ c. path_to (term_at ws) (span_at t) 65 (place_of c) i) (sym empty)
 
   module _ (l : Loaded ws t) where
-    pub by_record : (w i r : ℕ) (o : Option Path) → (w ≡ done_word → ⊥) → (w ≡ failed_word → ⊥) → r ≡ payload_of w → Descended ws t r i o → found o ≡ from_word ws t w i
-    by_record w i r o d f e h =
-        let s = shallow ws t l r in
-        h 65 (omega arith)
-        ∙ (ap (λ x. descend (term_at ws) (span_at t) 65 x i) e
-        ∙ (sym (cond-false (eqb w failed_word) _ _ (ne_eqb w failed_word f)) ∙ sym (cond-false (eqb w done_word) _ _ (ne_eqb w done_word d))))
-
     -- what holds of the paths from a head
     pub record HeadPath (p : Way) : Type 0 where
       pub right : PathRight ws p

@@ -1,3 +1,4 @@
+pub mod CodeWords
 pub mod Paths
 pub mod Places
 pub mod Sheets

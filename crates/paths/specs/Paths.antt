@@ -1,8 +1,10 @@
 -- The code's own values, read as the paths and codes that the rules speak of.
 --
 -- Conditions of whens are put innermost first, so that they are read backwards.
-use Rattle.std.specs.Prelude.{◌≡◌, ℕ, ◌<◌, cond, List, reverse, take, Some, None, Option, ◌==◌}
+use Rattle.std.specs.Prelude.{◌≡◌, ℕ, ◌<◌, cond, List, reverse, Some, None, Option, ◌==◌}
 use Rattle.std.specs.Option.{option_map}
+use Rattle.bounded.specs.Listed.{listed}
+use Rattle.bounded.specs.declared.bounded.Bounded.{Bounded}
 use Rattle.words.specs.Words.{payload_of, done as done_word, failed as failed_word}
 use Rattle.rules.specs.Descents.{Path as Way, arriving, descend}
 use Rattle.rules.specs.Places.{Head as Top, failed, behaviour}
@@ -14,13 +16,12 @@ use Rattle.paths.specs.declared.descend.Shape.TheVariants.{Nothing, Own, Both, F
 use Rattle.paths.specs.declared.path.Head.{Head}
 use Rattle.paths.specs.declared.path.Head.TheVariants.{Failed, Behaviour}
 use Rattle.paths.specs.declared.path.Path.{Path}
-use Rattle.paths.specs.declared.stack.Stack.{Stack}
 
-abbrev pub words_of : Stack → List ℕ
-words_of s = take s.count s.words
+abbrev pub words_of : Bounded ℕ 128 → List ℕ
+words_of s = listed s
 
 abbrev pub code_words : Code → List ℕ
-code_words c = take c.count c.words
+code_words c = listed c.words
 
 abbrev pub head_of : Head → Top
 head_of Failed = failed
@@ -38,14 +39,13 @@ path_of p =
 abbrev pub found : Option Path → Option Way
 found o = option_map path_of o
 
--- room for one word more in each stack
-abbrev pub Roomy : Option Path → Type 0
-Roomy None = Unit {0}
-Roomy (Some p) = (p.frames.count < 128) × (p.whens.count < 128) × (p.urgents.count < 128)
-
 -- what a descent from record r to its slot i finds, however much fuel it has above the record's depth
 abbrev pub Descended : List ℕ → List ℕ → ℕ → ℕ → Option Path → Type 0
 Descended ws t r i o = (k : ℕ) → depth_at t r < k → found o ≡ descend (term_at ws) (span_at t) k r i
+
+-- the head that a place's first word names
+abbrev pub head_named : ℕ → Option Top
+head_named w = cond (w == done_word) None (cond (w == failed_word) (Some failed) (Some (behaviour (payload_of w))))
 
 -- what a descent from the head that a place's first word names finds
 abbrev pub from_word : List ℕ → List ℕ → ℕ → ℕ → Option Way

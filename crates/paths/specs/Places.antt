@@ -3,6 +3,7 @@
 -- behaviour_at: a record of the sheet that is no branch, assignment or catch. frame_at: a seq, a loop or a try.
 -- place_of: the place of a code. is_place: a head, and no frames after done, else at most 64.
 use Rattle.std.specs.Prelude.{ℕ, Bool, true, false, cond, ◌&&◌, ◌||◌, List, [], ◌∷◌, map, length, ◌==◌, nat_le, nat_lt}
+use Rattle.std.specs.List.{list_all}
 use Rattle.words.specs.Words.{kind_of, payload_of, done as done_word, failed as failed_word}
 use Rattle.sheet.specs.declared.step.Step.{Step}
 use Rattle.sheet.specs.declared.step.Step.TheVariants.{Stop, Act, Break, Throw, Alt, Seq, Loop, Try, When, Urgent, Call, Link}
@@ -51,8 +52,7 @@ abbrev pub is_frame_word : List ℕ → ℕ → Bool
 is_frame_word ws w = kind_of w == 10 && frame_at ws (payload_of w)
 
 abbrev pub are_frame_words : List ℕ → List ℕ → Bool
-are_frame_words ws [] = true
-are_frame_words ws (w ∷ rest) = is_frame_word ws w && are_frame_words ws rest
+are_frame_words ws frames = list_all (is_frame_word ws) frames
 
 -- a head under frames
 abbrev pub is_running : List ℕ → ℕ → List ℕ → Bool

@@ -1,47 +1,31 @@
 // The code of a place: one word for its head and one for each frame.
-ghost use Rattle.std.specs.Prelude.{◌≡◌, ◌≤◌, List, [], ◌∷◌, length, take};
+ghost use Rattle.std.specs.Prelude.{◌≡◌, [], ◌∷◌};
 ghost use Rattle.words.specs.Words.{record_word, payload_of};
+ghost use Rattle.paths.specs.Paths.{code_words};
 
-use words::payload;
+use crate::word::CodeWord;
+use bounded::Bounded;
 
-/// The most words of a code: a head and 64 frames.
-const MOST_WORDS: usize = 65;
-
-/// The code of the place done.
-pub const DONE: u32 = 0x8000_0000;
-
-/// The head word of the error.
-pub const FAILED: u32 = 0x8000_0001;
-
-/// A head word with this kind names a record.
-pub const RECORD: u32 = 0x9000_0000;
-
-/// A word with this kind names a frame.
-pub const FRAME: u32 = 0xA000_0000;
-
-/// At most 65 words: the code of a place.
+/// The code of a place: at most 65 words, one for its head and one for each of 64 frames.
 #[derive(Clone, Copy)]
 pub struct Code {
-    words: [u32; MOST_WORDS],
-    count: usize,
-    ghost whole: { length words ≡ 65 },
-    ghost fits: { count ≤ 65 },
+    words: Bounded<u32, 65>,
 }
 
 impl Code {
     /// The code of a record without frames; of the record's number the payload counts.
     pub fn start(number: u32) -> Code
-        ensures { take result.count result.words ≡ record_word (payload_of number) ∷ [] }
+        ensures { code_words result ≡ record_word (payload_of number) ∷ [] }
     {
-        let mut words = [0; MOST_WORDS];
-        words[0] = RECORD + payload(number);
-        Code { words, count: 1 }
+        let mut words = Bounded::new();
+        words.push(CodeWord::Record(number).into());
+        Code { words }
     }
 
     /// The words.
     pub fn words(&self) -> &[u32]
-        ensures { result.now ≡ take self.now.count self.now.words }
+        ensures { result.now ≡ code_words self.now }
     {
-        &self.words[0..self.count]
+        self.words.as_slice()
     }
 }

@@ -1,12 +1,15 @@
 // The descent from a place to one of its edges, by the edge's id.
-ghost use Rattle.std.specs.Prelude.{◌≡◌};
-ghost use Rattle.rules.specs.Descents.{path_to};
-ghost use Rattle.paths.specs.Paths.{code_words, found, Descended, from_word, shape_of};
+ghost use Rattle.std.specs.Prelude.{◌≡◌, ◌+◌, ◌≤◌, length, map};
+ghost use Rattle.std.specs.Option.{option_map};
+ghost use Rattle.words.specs.Words.{payload_of};
+ghost use Rattle.rules.specs.Descents.{within, path_to};
+ghost use Rattle.paths.specs.Paths.{head_of, code_words, path_of, found, Descended, head_named, from_word, shape_of};
 ghost use Rattle.paths.specs.Places.{place_of};
 ghost use Rattle.paths.specs.Sheets.{term_of, term_at, span_at};
 
-use crate::code::{Code, DONE, FAILED};
-use crate::path::{Head, Path, arriving, under_frame, under_urgent, under_when};
+use crate::code::Code;
+use crate::path::{Head, Path, arriving};
+use crate::word::CodeWord;
 use descent::span;
 use model::Model;
 use sheet::{Reader, Step};
@@ -76,10 +79,34 @@ fn descend(model: &Model, number: u32, id: usize) -> Option<Path>
                 descend(model, second, id - split)
             }
         }
-        Shape::Framed(body) => under_frame(descend(model, body, id), number),
-        Shape::When(condition, body) => under_when(descend(model, body, id), condition),
-        Shape::Urgent(condition, body) => under_urgent(descend(model, body, id), condition),
+        Shape::Framed(body) => {
+            let mut path = descend(model, body, id)?;
+            path.frames.push(number);
+            Some(path)
+        }
+        Shape::When(condition, body) => {
+            let mut path = descend(model, body, id)?;
+            path.whens.push(condition);
+            Some(path)
+        }
+        Shape::Urgent(condition, body) => {
+            let mut path = descend(model, body, id)?;
+            path.urgents.push(condition);
+            Some(path)
+        }
         Shape::Inner(body) => descend(model, body, id),
+    }
+}
+
+/// The head of a place, which its first word names; none where the place is done. A word of no head counts as a record's.
+fn head_named(word: u32) -> Option<Head>
+    ensures { option_map head_of result ≡ head_named word }
+{
+    match CodeWord::try_from(word) {
+        Ok(CodeWord::Done) => None,
+        Ok(CodeWord::Failed) => Some(Head::Failed),
+        Ok(CodeWord::Record(number)) => Some(Head::Behaviour(number)),
+        Ok(CodeWord::Frame(_)) | Err(_) => Some(Head::Behaviour(payload(word))),
     }
 }
 
@@ -87,13 +114,21 @@ fn descend(model: &Model, number: u32, id: usize) -> Option<Path>
 fn from_head(model: &Model, word: u32, id: usize) -> Option<Path>
     ensures { found result ≡ from_word model.now.words.items model.now.table.items word id }
 {
-    if word == DONE {
-        return None;
+    match head_named(word)? {
+        Head::Failed => arriving(Head::Failed, id),
+        Head::Behaviour(number) => descend(model, number, id),
     }
-    if word == FAILED {
-        return arriving(Head::Failed, id);
+}
+
+/// The same path with more frames around it, which words of a place's code name.
+fn under_frames(mut path: Path, words: &[u32]) -> Path
+    requires { path.frames.count + length words.now ≤ 128 }
+    ensures { path_of result ≡ within (map payload_of words.now) (path_of path) }
+{
+    for word in words {
+        path.frames.push(payload(*word));
     }
-    descend(model, payload(word), id)
+    path
 }
 
 /// The path from a place, given by its code, to one of its slots; none where the slot is vacant.
@@ -103,11 +138,6 @@ pub fn path_to(model: &Model, code: &Code, id: usize) -> Option<Path>
     let [first, frames @ ..] = code.words() else {
         return None;
     };
-    match from_head(model, *first, id) {
-        Some(mut path) => {
-            path.frames.extend(frames);
-            Some(path)
-        }
-        None => None,
-    }
+    let path = from_head(model, *first, id)?;
+    Some(under_frames(path, frames))
 }

@@ -5,8 +5,10 @@ mod code;
 mod descend;
 mod path;
 mod stack;
+mod word;
 
-pub use code::{Code, DONE, FAILED, FRAME, RECORD};
+pub use code::Code;
 pub use descend::path_to;
 pub use path::{Head, Path};
 pub use stack::Stack;
+pub use word::{CodeWord, NoCodeWord};

@@ -1,8 +1,7 @@
 // What a descent finds on its way to an edge.
-ghost use Rattle.std.specs.Prelude.{◌≡◌, [], ◌∷◌};
-ghost use Rattle.std.specs.Option.{option_map};
-ghost use Rattle.rules.specs.Descents.{arriving, within, under_when, under_urgent};
-ghost use Rattle.paths.specs.Paths.{head_of, found, Roomy};
+ghost use Rattle.std.specs.Prelude.{◌≡◌};
+ghost use Rattle.rules.specs.Descents.{arriving};
+ghost use Rattle.paths.specs.Paths.{head_of, found};
 
 use crate::stack::Stack;
 
@@ -36,46 +35,4 @@ pub(crate) fn arriving(leaf: Head, id: usize) -> Option<Path>
         whens: Stack::new(),
         urgents: Stack::new(),
     })
-}
-
-/// The same path with a frame around it.
-pub(crate) fn under_frame(path: Option<Path>, frame: u32) -> Option<Path>
-    requires { Roomy path }
-    ensures { found result ≡ option_map (within (frame ∷ [])) (found path) }
-{
-    match path {
-        Some(mut inner) => {
-            inner.frames.push(frame);
-            Some(inner)
-        }
-        None => None,
-    }
-}
-
-/// The same path below a when.
-pub(crate) fn under_when(path: Option<Path>, condition: u32) -> Option<Path>
-    requires { Roomy path }
-    ensures { found result ≡ option_map (under_when condition) (found path) }
-{
-    match path {
-        Some(mut inner) => {
-            inner.whens.push(condition);
-            Some(inner)
-        }
-        None => None,
-    }
-}
-
-/// The same path below an urgent.
-pub(crate) fn under_urgent(path: Option<Path>, condition: u32) -> Option<Path>
-    requires { Roomy path }
-    ensures { found result ≡ option_map (under_urgent condition) (found path) }
-{
-    match path {
-        Some(mut inner) => {
-            inner.urgents.push(condition);
-            Some(inner)
-        }
-        None => None,
-    }
 }

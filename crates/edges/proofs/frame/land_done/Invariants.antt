@@ -4,4 +4,6 @@ use Rattle.paths.specs.Sheets.{term_at}
 use Rattle.edges.proofs.frame.land_done.Given as goal
 
 abbrev pub invariant-loop-at : goal.invariant-loop-at
-invariant-loop-at l = done_under (term_at (vec_items l.model.words)) (drop l.at l.frames) ≡ done_under (term_at (vec_items l.model.words)) (drop l.behind l.frames)
+invariant-loop-at l =
+    let term = term_at (vec_items l.model.words) in
+    done_under term (drop l.at l.frame-items) ≡ done_under term l.frame-items

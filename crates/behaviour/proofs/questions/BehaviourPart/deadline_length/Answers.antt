@@ -7,7 +7,8 @@ use Rattle.behaviour.proofs.questions.BehaviourPart.deadline_length.Goals as goa
 
 pub returns : goal.returns
 returns c =
-    let n = length-urging (words_of c.in_ok-edge.edge.path.urgents) in
-    let m = ap length c.words.ensures in
-    let e : 1 + 2 * length c.words.result.now ≡ suc (length (urging (words_of c.in_ok-edge.edge.path.urgents))) = omega arith in
-    ap (λ n. Ok n) e ∙ sym (ap deadline_length_of c.in_ok-edge.ensures.answer)
+    let cs = words_of c.in_ok-edge_at.field-0.path.urgents in
+    let n = length-urging cs in
+    let m = ap length c.as_slice.ensures in
+    let e : 1 + 2 * length c.as_slice.result.now ≡ suc (length (urging cs)) = omega arith in
+    ap (λ n. Ok n) e ∙ sym (ap deadline_length_of c.in_ok-edge_at.ensures.answer)

@@ -1,14 +1,15 @@
-use Rattle.std.proofs.Common.{sym, ap, ◌∙◌}
+use Rattle.std.proofs.Common.{reverse, sym, ap, ◌∙◌}
+use Rattle.std.proofs.lemmas.Iterator.Adapters.{YieldsList-from_rev_slice}
+use Rattle.std.proofs.lemmas.Iterator.Consumers.{nth_from_yields_List}
+use Rattle.std.specs.List.{slice_get}
 use Rattle.part.specs.Questions.{guard_word_of}
-use Rattle.behaviour.proofs.Answering.{back_item, no_back_item}
+use Rattle.behaviour.proofs.Answering.{item_found}
 use Rattle.behaviour.proofs.questions.BehaviourPart.guard_word.Goals as goal
 
-pub returns-then-item-conditions : goal.returns-then-item-conditions
-returns-then-item-conditions c =
-    back_item c.words-conditions.result.now _ c.args.item c.words-conditions.ensures c.if-item-conditions.true
-    ∙ sym (ap (λ x. guard_word_of x c.args.item) c.in_ok-edge.ensures.answer)
-
-pub returns-else-item-conditions : goal.returns-else-item-conditions
-returns-else-item-conditions c =
-    no_back_item c.words-conditions.result.now _ c.args.item c.words-conditions.ensures c.if-item-conditions.false
+pub returns : goal.returns
+returns c =
+    item_found _ _ c.ok_or.ensures.value
+    (c.copied.ensures
+    ∙ (nth_from_yields_List c.nth.result _ c.args.item c.nth.ensures.ran (YieldsList-from_rev_slice c.as_slice.result.now cc)
+    ∙ ap (λ xs. slice_get (reverse xs) c.args.item) c.as_slice.ensures))
     ∙ sym (ap (λ x. guard_word_of x c.args.item) c.in_ok-edge.ensures.answer)

@@ -1,6 +1,6 @@
 use Rattle.std.proofs.Common.{not}
 use Rattle.std.proofs.lemmas.Bool.{and_left}
-use Rattle.layers.specs.Entries.{entries_of}
+use Rattle.bounded.specs.Listed.{listed}
 use Rattle.layers.specs.Renamings.{is_source}
 use Rattle.layers.proofs.Sweeps.{other_target, unknown_source, known_source_lem, no_source, known_by_pair, not-kept, known_by_none}
 use Rattle.layers.proofs.renamed.RenamedPart.knows.Goals as goal
@@ -11,7 +11,7 @@ returns-then-branch g c =
     let M = g.P.Part.meaning c.args.self.now.part in
     let qs = c.pairs-pair-items.result.now in
     let a = c.args.action in
-    known_by_pair M (entries_of c.args.self.now.table.pairs) qs a c.in_ok-own.own c.in_ok-own.ensures c.pairs-pair-items.ensures c.if-not-is_observable.ensures
+    known_by_pair M (listed c.args.self.now.table.pairs) qs a c.in_ok-own.own c.in_ok-own.ensures c.pairs-pair-items.ensures c.if-not-is_observable.ensures
     (known_source_lem M qs c.loop-pair.pair-index a c.loop-pair.invariant c.in_ok-knows.field-0 c.loop-pair-test.true c.if-pair-action.true c.in_ok-knows.ensures c.if-branch.true)
 
 pub loop-pair-preserved : goal.loop-pair-preserved
@@ -27,7 +27,7 @@ loop-pair-preserved g c =
 pub returns : goal.returns
 returns g c =
     let M = g.P.Part.meaning c.args.self.now.part in
-    let ps = entries_of c.args.self.now.table.pairs in
+    let ps = listed c.args.self.now.table.pairs in
     let qs = c.pairs-pair-items.result.now in
     let a = c.args.action in
     let own = c.in_ok-own.own in
