@@ -1,5 +1,5 @@
 -- Chains walked record by record.
-use Rattle.std.proofs.Common.{◌≡◌, ℕ, zero, suc, ◌+◌, ◌-◌, ◌<◌, ◌≤◌, true, false, eqb, List, [], ◌∷◌, refl, arith}
+use Rattle.std.proofs.Common.{◌≡◌, ℕ, zero, suc, ◌+◌, ◌-◌, ◌<◌, true, false, eqb, List, [], ◌∷◌, refl, arith}
 use Rattle.std.proofs.lemmas.Bool.{eq-eqb, ne_eqb}
 use Rattle.words.specs.Words.{none}
 use Rattle.sheet.specs.Layout.{records, record_at}
@@ -17,15 +17,9 @@ pub chain-none : (ws : List ℕ) (r : ℕ) → r ≡ none → chain ws r ≡ []
 unfolding chain
 chain-none ws r h = links-none ws (records ws) r h
 
-pub rest-none : (ws : List ℕ) (i r : ℕ) → r ≡ none → rest ws i r ≡ []
-rest-none ws i r h = links-none ws (records ws - i) r h
-
 pub rest_all : (ws : List ℕ) (r : ℕ) → rest ws 0 r ≡ chain ws r
 unfolding chain
 rest_all ws r = let e : records ws - 0 ≡ records ws = omega arith in rw e
-
-pub rest_over : (ws : List ℕ) (i r : ℕ) → records ws ≤ i → rest ws i r ≡ []
-rest_over ws i r h = let e : records ws - i ≡ 0 = omega arith in rw e
 
 pub rest_more : (ws : List ℕ) (i r : ℕ) → i < records ws → (r ≡ none → ⊥) → rest ws i r ≡ r ∷ rest ws (i + 1) (record_at ws r).three
 rest_more ws i r h ne = go (records ws - i) refl

@@ -1,12 +1,12 @@
 -- Frames by the steps of their records, and the first clause of a chain that catches.
-use Rattle.std.proofs.Common.{◌≡◌, ℕ, ◌+◌, ◌<◌, cond, eqb, List, [], map, length, get_or, drop, Some, None, Option, sym, refl, ap, ◌∙◌}
+use Rattle.std.proofs.Common.{◌≡◌, ℕ, ◌+◌, ◌<◌, cond, eqb, true, List, [], ◌∷◌, map, length, get_or, drop, Some, None, Option, sym, refl, ap, ◌∙◌}
 use Rattle.std.proofs.lemmas.List.{at_drop_more}
 use Rattle.std.proofs.lemmas.Bool.{eq-eqb, ne_eqb, cond-true, cond-false}
-use Rattle.words.specs.Words.{none, kind_of, exception}
+use Rattle.words.specs.Words.{exception}
 use Rattle.sheet.specs.declared.reader.Record.{Record}
 use Rattle.sheet.specs.declared.step.Step.{Step}
 use Rattle.sheet.specs.declared.step.Step.TheVariants.{Stop, Act, Break, Throw, Alt, Seq, Loop, Try, When, Urgent, Call, Link}
-use Rattle.sheet.specs.Layout.{records, record_at}
+use Rattle.sheet.specs.Layout.{record_at}
 use Rattle.sheet.specs.Steps.{step_at}
 use Rattle.rules.specs.Passing.{first_for, handler_of}
 use Rattle.rules.specs.Cuts.{cut_as, cut_or, cut, done_as, outcome_by, done_under}
@@ -17,7 +17,6 @@ use Rattle.paths.specs.declared.path.Head.{Head}
 use Rattle.paths.specs.Sheets.{clause_at, term_of, term_at}
 use Rattle.edges.specs.Frames.{role_by, role_from}
 use Rattle.edges.specs.declared.frame.Role.{Role}
-use Rattle.edges.proofs.Chained.{rest, rest_more}
 
 role_is : (ws : List ℕ) (s : Step) → role_from ws (role_by s) ≡ role_of (term_of ws s)
 role_is ws Stop = refl
@@ -39,31 +38,20 @@ unfolding term_at
 role_at ws rs r s x x_is s_is same = rw (x_is, s_is, same) (role_is ws (step_at ws r))
 
 -- only exceptions are handled
-pub handled : (cs : List Clause) (a k : ℕ) (o : Option ℕ) → k ≡ kind_of a → k ≡ 3 → o ≡ first_for cs a → o ≡ handler_of cs a
-handled cs a k o k_is three h = h ∙ sym (cond-true (exception a) (first_for cs a) None (eq-eqb (kind_of a) 3 (sym k_is ∙ three)))
+pub handled : (cs : List Clause) (a : ℕ) (o : Option ℕ) → exception a ≡ true → o ≡ first_for cs a → o ≡ handler_of cs a
+handled cs a o is h = h ∙ sym (cond-true (exception a) (first_for cs a) None is)
 
-module _ (ws rs : List ℕ) (i r a : ℕ) (x : Record) (inside : i < records ws) (there : r ≡ none → ⊥) (read : x ≡ record_at rs r) (same : rs ≡ ws) where
-  abbrev left : List Clause
-  left = map (clause_at ws) (rest ws i r)
-
-  first_clause : first_for left a ≡ cond (eqb (record_at ws r).one a) (Some (record_at ws r).two) (first_for (map (clause_at ws) (rest ws (i + 1) (record_at ws r).three)) a)
+-- the first record of what is left of a chain catches an action, or the later ones decide
+module _ (ws left later : List ℕ) (r a : ℕ) (x : Record) (next : left ≡ r ∷ later) (read : x ≡ record_at ws r) where
+  first_clause : first_for (map (clause_at ws) left) a ≡ cond (eqb x.one a) (Some x.two) (first_for (map (clause_at ws) later) a)
   unfolding clause_at
-  first_clause = ap (λ xs. first_for (map (clause_at ws) xs) a) (rest_more ws i r inside there)
+  first_clause = rw (next, read)
 
-  record_is : record_at ws r ≡ x
-  record_is = sym (read ∙ ap (λ y. record_at y r) same)
+  pub catching : x.one ≡ a → first_for (map (clause_at ws) left) a ≡ Some x.two
+  catching h = first_clause ∙ cond-true (eqb x.one a) _ _ (eq-eqb x.one a h)
 
-  pub catching : x.one ≡ a → first_for left a ≡ Some x.two
-  catching h =
-      first_clause
-      ∙ (cond-true (eqb (record_at ws r).one a) _ _ (eq-eqb (record_at ws r).one a (ap (λ y. y.one) record_is ∙ h))
-      ∙ ap (λ y. Some y.two) record_is)
-
-  pub passing : (x.one ≡ a → ⊥) → first_for left a ≡ first_for (map (clause_at ws) (rest ws (i + 1) x.three)) a
-  passing other =
-      first_clause
-      ∙ (cond-false (eqb (record_at ws r).one a) _ _ (ne_eqb (record_at ws r).one a (λ e. other (sym (ap (λ y. y.one) record_is) ∙ e)))
-      ∙ ap (λ y. first_for (map (clause_at ws) (rest ws (i + 1) y.three)) a) record_is)
+  pub passing : (x.one ≡ a → ⊥) → first_for (map (clause_at ws) left) a ≡ first_for (map (clause_at ws) later) a
+  passing other = first_clause ∙ cond-false (eqb x.one a) _ _ (ne_eqb x.one a other)
 
 -- the frames from the k-th on: the k-th cuts, or the later ones decide
 module _ (term : ℕ → Term) (fs : List ℕ) (k : ℕ) (inside : k < length fs) where

@@ -10,16 +10,11 @@ ghost use Rattle.edges.specs.Frames.{role_by, role_from, aim, standing, landed, 
 
 use model::Model;
 use paths::{Head, Stack};
-use sheet::{Reader, Step};
-use words::{NONE, kind};
-
-// Kept: these numbers are the stated format of an action's word.
+use sheet::Step;
+use words::is_exception;
 
 /// The action of a break.
 pub(crate) const BREAK: u32 = 0x4000_0000;
-
-/// The kind of an exception.
-const EXCEPTION: u32 = 3;
 
 /// Where an outcome is, but for its frames: done, or at a head.
 // Kept: as an Option of a head it would stand inside another Option, as in `cut_at`.
@@ -72,21 +67,15 @@ fn role_of(model: &Model, number: u32) -> Role
 fn handler(model: &Model, first: u32, action: u32) -> Option<u32>
     ensures { result ≡ handler_of (clauses_from model.now.words.items first) action }
 {
-    if kind(action) != EXCEPTION {
+    if !is_exception(action) {
         return None;
     }
     let reader = model.reader();
-    // Kept: each record of a chain names the next one, and the reader has no iterator over them.
-    let mut link = first;
-    for _step in 0..reader.records() {
-        if link == NONE {
-            return None;
+    for number in reader.chain(first) {
+        let clause = reader.record(number);
+        if clause.one == action {
+            return Some(clause.two);
         }
-        let record = reader.record(link);
-        if record.one == action {
-            return Some(record.two);
-        }
-        link = record.three;
     }
     None
 }
