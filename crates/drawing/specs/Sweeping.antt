@@ -1,6 +1,6 @@
 -- Words of the alphabet and rows of the table, one more at a time.
-use Rattle.std.specs.Prelude.{◌≡◌, ℕ, zero, suc, ◌+◌, ◌-◌, ◌*◌, ◌/◌, ◌%◌, ◌<◌, Bool, true, false, ltb, ◌||◌, List, [], ◌∷◌, ◌++◌, map, Err, ◌==◌, nat_eq, nat_lt, slice_index, refl}
-use Rattle.std.proofs.Common.{sym, ◌∙◌, add-one}
+use Rattle.std.specs.Prelude.{◌≡◌, ℕ, zero, suc, ◌+◌, ◌-◌, ◌*◌, ◌/◌, ◌%◌, ◌<◌, Bool, true, false, ltb, ◌||◌, List, [], ◌∷◌, ◌++◌, map, Err, ◌==◌, ◌≢◌, nat_eq, nat_lt, slice_index, refl}
+use Rattle.std.proofs.Common.{sym, ◌∙◌, ⊎_elim, add-one}
 use Rattle.std.proofs.Math.Path.{ap, subst}
 use Rattle.std.proofs.Math.Bool.{or-false}
 use Rattle.std.specs.List.{range_with_len, list_any}
@@ -8,7 +8,7 @@ use Rattle.std.proofs.lemmas.List.{map-id}
 use Rattle.std.proofs.lemmas.List.Folds.{list_any-append}
 use Rattle.std.proofs.lemmas.List.FromFn.{map-range_with_len_more}
 use native.Mathlib.Omega.{arith}
-use Rattle.std.proofs.lemmas.Bool.{ne_eqb, cond-false, and_left, and_right, and_from}
+use Rattle.std.proofs.lemmas.Bool.{cases_eq, eq-eqb, ne_eqb, cond-false, and_left, and_right, and_from, or_from, or_left, or_right}
 use Rattle.words.specs.Checks.{fault, Clear, Lowest, lowest}
 use Rattle.words.specs.Words.{observable}
 use Rattle.words.specs.declared.Fault.{Fault}
@@ -37,6 +37,17 @@ module _ (ws : List ℕ) (i last action : ℕ) (last_is : last ≡ before (actio
   risen b b_is h l =
       and_from (observable (action_at ws i)) _ (ap observable (sym action_is) ∙ (sym b_is ∙ h))
       (ap (λ x. ltb x (action_at ws i)) (sym last_is) ∙ (ap (ltb last) (sym action_is) ∙ l))
+
+pub listed_more : (ws : List ℕ) (a i w : ℕ) → w ≡ action_at ws i → (w ≢ a) → listed ws a i ≡ false → listed ws a (i + 1) ≡ false
+listed_more ws a i w w_is other h =
+    ap (listed ws a) (add-one i) ∙ or_from _ _ h (ap (λ x. nat_eq x a) (sym w_is) ∙ ne_eqb w a other)
+
+pub listed_has : (ws : List ℕ) (a n i : ℕ) → i < n → action_at ws i ≡ a → listed ws a n ≡ true
+listed_has ws a zero i h e = absurd (omega arith)
+listed_has ws a (suc n) i h e = ⊎_elim
+    (λ q. or_right (listed ws a n) (action_at ws n == a) (eq-eqb (action_at ws n) a (ap (action_at ws) (sym q) ∙ e)))
+    (λ q. or_left (listed ws a n) (action_at ws n == a) (listed_has ws a n i (omega arith) e))
+    (cases_eq i n)
 
 -- the words of the alphabet in their order, one of which is an action
 pub listed_any : (ws : List ℕ) (a n : ℕ) → list_any (λ at. nat_eq (slice_index ws at) a) (range_with_len 3 n) ≡ listed ws a n
