@@ -18,6 +18,7 @@ fn mark(table: &mut [u32], number: u32) -> bool
     ensures answer { result ≡ is_new table.old number }
     ensures after { table.new ≡ marking table.old number }
 {
+    // Kept: by `get_mut` nothing would be known of the table's words afterwards.
     let at = number as usize;
     if at < table.len() && table[at] == 0 {
         table[at] = MARK;

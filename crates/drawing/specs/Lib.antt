@@ -1,3 +1,4 @@
+pub mod FiveWords
 pub mod Automata
 pub mod Checks
 pub mod Drawings

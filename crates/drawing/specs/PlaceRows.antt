@@ -65,6 +65,10 @@ module _ (ws : List ℕ) (up : Rising ws) (w : ℕ) where
   rows-counted = ap length rows_in_range ∙ length-map-range_with_len (row_at ws) (range_of ws w).start ((range_of ws w).end - (range_of ws w).start)
 
 -- the most rows of a place
+pub greatest-more : (f : ℕ → ℕ) (n here most more : ℕ) → more ≡ max here most → here ≡ f n → most ≡ greatest f n → more ≡ greatest f (n + 1)
+greatest-more f n here most more more_is here_is most_is =
+    more_is ∙ (ap (λ k. max k most) here_is ∙ (ap (max (f n)) most_is ∙ sym (ap (greatest f) (add-one n))))
+
 greatest-same : (f g : ℕ → ℕ) (n : ℕ) → ((p : ℕ) → f p ≡ g p) → greatest f n ≡ greatest g n
 greatest-same f g zero h = refl
 greatest-same f g (suc n) h = ap (λ k. max k (greatest f n)) (h n) ∙ ap (max (g n)) (greatest-same f g n h)
