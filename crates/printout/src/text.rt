@@ -56,8 +56,5 @@ fn listing_text<P: Part>(heap: Global, part: &P, room: usize) -> Result<Vec<u8>,
 pub fn part_text<P: Part>(heap: Global, part: &P, room: usize) -> Result<Vec<u8>, AllocError>
     ensures { IfOk result (λ v. v.items ≡ text_of (P.Part.meaning part.now) room) }
 {
-    match listing_text(heap, part, room) {
-        Ok(text) => Ok(text),
-        Err(why) => explain(heap, why),
-    }
+    listing_text(heap, part, room).or_else(|why| explain(heap, why))
 }
