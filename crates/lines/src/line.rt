@@ -7,6 +7,7 @@ use itoa::{Buffer, Integer};
 use words::Refusal;
 
 /// The line so far: the first bytes of the buffer.
+// Kept: a length beside the buffer, since a line is made in memory that is lent, and none is taken for it.
 #[derive(Drop)]
 pub(crate) struct Line<'a> {
     out: &'a mut [u8],

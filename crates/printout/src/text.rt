@@ -1,8 +1,8 @@
 // What is printed of a part: its listing's lines, or the line of a refusal.
-ghost use Rattle.std.specs.Prelude.{◌≡◌, IfOk, string_bytes};
+ghost use Rattle.std.specs.Prelude.{◌≡◌, IfOk};
 ghost use Rattle.lists.specs.Reading.{edges_in};
 ghost use Rattle.printout.specs.Failures.{Explains, Shown};
-ghost use Rattle.printout.specs.Texts.{numbered_line, refused_line, list_text, text_of};
+ghost use Rattle.printout.specs.Texts.{refused_line, list_text, text_of};
 
 use crate::failure::Failure;
 use crate::put_list;
@@ -14,17 +14,12 @@ use words::Refusal;
 /// How many bytes a line may have.
 const LINE_ROOM: usize = 65_536;
 
-fn line(heap: Global, number: u32, place: usize) -> Result<String, AllocError>
-    ensures { IfOk result (λ s. string_bytes s ≡ numbered_line number place) }
-{
-    format!(in heap; "refused {number} at {place}\n")
-}
-
 /// The line of a refusal.
 pub fn refused_line(heap: Global, refusal: Refusal, place: usize) -> Result<Vec<u8>, AllocError>
     ensures { IfOk result (λ v. v.items ≡ refused_line refusal place) }
 {
-    let text = line(heap, refusal.number(), place)?;
+    let number = refusal.number();
+    let text = format!(in heap; "refused {number} at {place}\n")?;
     Ok(text.into_bytes())
 }
 
@@ -61,8 +56,5 @@ fn listing_text<P: Part>(heap: Global, part: &P, room: usize) -> Result<Vec<u8>,
 pub fn part_text<P: Part>(heap: Global, part: &P, room: usize) -> Result<Vec<u8>, AllocError>
     ensures { IfOk result (λ v. v.items ≡ text_of (P.Part.meaning part.now) room) }
 {
-    match listing_text(heap, part, room) {
-        Ok(text) => Ok(text),
-        Err(why) => explain(heap, why),
-    }
+    listing_text(heap, part, room).or_else(|why| explain(heap, why))
 }

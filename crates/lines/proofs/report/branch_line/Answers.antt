@@ -2,18 +2,8 @@ use Rattle.std.proofs.Common.{ℕ, List, length, Err, sym, ap, ◌∙◌}
 use Rattle.std.proofs.lemmas.Result.{err_from_is_err_and}
 use Rattle.part.specs.Questions.{Answer}
 use Rattle.lines.specs.Lines.{answered, out_after}
-use Rattle.lines.proofs.Spelled.{no_edge_branch_line, no_branch_line, branch_line}
+use Rattle.lines.proofs.Spelled.{no_branch_line, branch_line}
 use Rattle.lines.proofs.report.branch_line.Goals as goal
-
-pub returns-in_err-edge : goal.returns-in_err-edge
-returns-in_err-edge c =
-    let p = err_from_is_err_and c.from_residual.result c.from_residual.ensures.1 in
-    let missing = c.in_err-edge.ensures in
-    let line = no_edge_branch_line c.args.list.words.now c.args.number c.args.branch missing.past in
-    record {
-      answer = (p.1 ∙ ap Err (p.2 ∙ missing.told)) ∙ sym (ap (λ (l : Answer (List ℕ)). answered l (length c.args.out.now)) line);
-      out = sym (ap (λ (l : Answer (List ℕ)). out_after l c.args.out.now) line);
-    }
 
 pub returns-in_err-branch : goal.returns-in_err-branch
 returns-in_err-branch c =

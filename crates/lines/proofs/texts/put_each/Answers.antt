@@ -1,12 +1,9 @@
 use Rattle.std.proofs.Common.{◌≡◌, ◌++◌, Err, Ok, sym, subst, rules}
 use Rattle.std.specs.List.{flat_map}
 use Rattle.lines.specs.Printing.{Puts}
-use Rattle.lines.proofs.Puts.{puts_then, puts_stop, puts_item, puts_more, puts_nothing}
+use Rattle.lines.proofs.Puts.{puts_then, puts_stop, puts_item, puts_more}
 use Rattle.lines.proofs.Yielded.{next_of, all_of}
 use Rattle.lines.proofs.texts.put_each.Goals as goal
-
-pub loop-item-init : goal.loop-item-init
-loop-item-init g c = (search rules, (search rules, puts_nothing _))
 
 pub returns-in_err-put : goal.returns-in_err-put
 returns-in_err-put g c xs always =
