@@ -60,14 +60,8 @@ impl Part for Behaviour {
 
     fn guard_word(&self, id: usize, item: usize) -> Result<u32, Refusal> {
         let edge = self.edge_at(id)?;
-        edge.path
-            .whens
-            .as_slice()
-            .iter()
-            .rev()
-            .nth(item)
-            .copied()
-            .ok_or(Refusal::NoItem)
+        let mut conditions = edge.path.whens.as_slice().iter().rev();
+        conditions.nth(item).copied().ok_or(Refusal::NoItem)
     }
 
     fn deadline_length(&self, id: usize) -> Result<usize, Refusal> {
@@ -82,11 +76,10 @@ impl Part for Behaviour {
         let Some(condition) = edge.path.urgents.as_slice().get((item - 1) / 2) else {
             return Err(Refusal::NoItem);
         };
-        Ok(if item % 2 == 0 {
-            OR
-        } else {
-            CONDITION + *condition
-        })
+        if item % 2 == 0 {
+            return Ok(OR);
+        }
+        Ok(CONDITION + *condition)
     }
 
     fn branch_count(&self, id: usize) -> Result<usize, Refusal> {

@@ -29,14 +29,18 @@ impl<T: Copy + Default, const N: usize> Bounded<T, N> {
     pub fn new() -> Bounded<T, N>
         ensures { take result.count result.entries ≡ [] }
     {
-        Bounded {
-            entries: [T::default(); N],
-            count: 0,
-        }
+        Bounded::over([T::default(); N])
     }
 }
 
 impl<T: Copy, const N: usize> Bounded<T, N> {
+    /// No entries yet in a buffer.
+    fn over(entries: [T; N]) -> Bounded<T, N>
+        ensures { result.count ≡ 0 }
+    {
+        Bounded { entries, count: 0 }
+    }
+
     /// Puts one entry more, for which there is room.
     pub fn push(&mut self, entry: T)
         requires { self.old.count < N }
@@ -63,10 +67,7 @@ impl<T: Copy, const N: usize> Bounded<T, N> {
     pub fn after(&self, passed: usize) -> Bounded<T, N>
         ensures { take result.count result.entries ≡ drop passed (take self.now.count self.now.entries) }
     {
-        let mut rest = Bounded {
-            entries: self.entries,
-            count: 0,
-        };
+        let mut rest = Bounded::over(self.entries);
         for entry in &self.as_slice()[passed.min(self.count)..] {
             rest.push(*entry);
         }

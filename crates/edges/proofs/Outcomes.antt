@@ -1,26 +1,19 @@
--- An edge's branches, as the code puts them together.
-use Rattle.std.proofs.Common.{◌≡◌, ℕ, zero, suc, true, false, eqb, List, length, Some, None, Option, sym, refl, ap, ◌∙◌, arith}
-use Rattle.std.proofs.lemmas.List.{length-map}
+-- The branches of an edge before they pass frames, as the code reads them.
+use Rattle.std.proofs.Common.{◌≡◌, ℕ, zero, suc, true, false, eqb, List, Some, None, Option, sym, refl, ap, ◌∙◌, arith}
 use Rattle.std.proofs.lemmas.Bool.{eq-eqb, ne_eqb}
 use Rattle.std.proofs.lemmas.Option.{slice_get-map}
 use Rattle.std.specs.Bool.{then_some}
 use Rattle.std.specs.List.{slice_get}
 use Rattle.std.specs.Option.{option_map}
-use Rattle.words.specs.Edges.{leading_to}
 use Rattle.words.specs.Words.{none, payload_of}
-use Rattle.sheet.specs.declared.chains.Survey.{Survey}
 use Rattle.sheet.specs.declared.reader.Record.{Record}
 use Rattle.sheet.specs.Layout.{record_at}
-use Rattle.sheet.specs.Chains.{chain, survey_of}
-use Rattle.rules.specs.Cuts.{outcome_under}
-use Rattle.rules.specs.Places.{Place}
+use Rattle.sheet.specs.Chains.{chain}
 use Rattle.rules.specs.Rules.{branch_of}
-use Rattle.paths.specs.Paths.{words_of}
-use Rattle.paths.specs.Sheets.{way_at, ways_from, term_at}
+use Rattle.paths.specs.Sheets.{way_at, ways_from}
 use Rattle.paths.specs.declared.path.Head.TheVariants.{Behaviour}
-use Rattle.edges.specs.Edges.{outcomes_of, branch_by}
+use Rattle.edges.specs.Edges.{branch_by}
 use Rattle.edges.specs.Leaves.{branches_from}
-use Rattle.edges.specs.declared.edge.Edge.{Edge as OwnEdge}
 use Rattle.edges.specs.declared.frame.Goal.{Goal}
 use Rattle.edges.specs.declared.frame.Goal.TheVariants.{Done, At}
 use Rattle.edges.specs.declared.leaf.Ways.{Ways}
@@ -62,14 +55,3 @@ module _ (ws : List ℕ) where
       → option_map (branch_by ws) (then_some (eqb b 0) (record { weight = 1; assignments = none; goal = g })) ≡ slice_get (branches_from ws w) b
   lone_way g zero w w_is = rw (w_is, chain-none ws none refl)
   lone_way g (suc b) w w_is = let off : eqb (suc b) 0 ≡ false = ne_eqb (suc b) 0 (λ e. omega arith) in rw (w_is, off)
-
-  -- how many branches an edge has that has those of a chain
-  pub chain_count : (rs : List ℕ) (first key : ℕ) (e : OwnEdge) (s : Survey) → e.ways ≡ Chain first → s ≡ survey_of rs key (chain rs first) → rs ≡ ws
-      → s.length ≡ length (outcomes_of ws e)
-  chain_count rs first key e s w_is s_is same =
-      let f : Place → Place = outcome_under (term_at ws) (words_of e.frames) in
-      ap (λ (x : Survey). x.length) s_is
-      ∙ (ap (λ y. length (chain y first)) same
-      ∙ (sym (length-map (chain ws first) (way_at ws))
-      ∙ (sym (length-map (ways_from ws first) branch_of)
-      ∙ (ap (λ (x : Ways). length (branches_from ws x)) (sym w_is) ∙ sym (length-map (branches_from ws e.ways) (leading_to f))))))

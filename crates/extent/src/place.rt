@@ -77,8 +77,8 @@ pub fn is_place_in(model: &Model, code: &[u32]) -> bool
     };
     match CodeWord::try_from(*head) {
         Ok(CodeWord::Done) => frames.is_empty(),
-        Ok(CodeWord::Failed | CodeWord::Record(_) | CodeWord::Frame(_)) | Err(_) => is_running(
-            model, *head, frames,
-        ),
+        Ok(CodeWord::Failed | CodeWord::Record(_) | CodeWord::Frame(_)) | Err(_) => {
+            is_running(model, *head, frames)
+        }
     }
 }

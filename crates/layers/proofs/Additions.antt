@@ -1,30 +1,10 @@
--- The actions of an extension: all are observable, and a search among them finds exactly the members.
-use Rattle.std.proofs.Common.{◌≡◌, ℕ, Bool, true, false, eqb, ltb, List, [], ◌∷◌, ◌++◌, length, sym, refl, ap, ◌∙◌, subst, inl, inr, ⊎_elim}
-use Rattle.std.proofs.lemmas.List.Elements.{contains_decides}
-use Rattle.std.proofs.lemmas.Bool.{both_ways, eqb-true, and_parts, and_from, or_cases, or_left, or_right, cond_both}
-use Rattle.std.proofs.lemmas.Bool.Decides.{same_from_decides, Decides-by_or, Decides-eqb}
-use Rattle.std.specs.List.{IsAnyAnswer}
+-- The actions of an extension are observable, so that the alphabet is what the part knows and these actions.
+use Rattle.std.proofs.Common.{◌≡◌, ℕ, true, false, eqb, List, [], ◌∷◌, sym, refl, ap, ◌∙◌, inl, inr, ⊎_elim}
+use Rattle.std.proofs.lemmas.Bool.{both_ways, eqb-true, and_parts, or_cases, or_left, or_right}
 use Rattle.words.specs.Words.{observable}
 use Rattle.part.specs.Automata.{Meaning}
 use Rattle.layers.specs.ExtendedParts.{AlphabetIsAdded}
 use Rattle.layers.specs.Extensions.{member, observed}
-use Rattle.layers.specs.Tables.{capacity, pushed}
-
--- the answer of a search
-pub found-member : (xs ys : List ℕ) (a : ℕ) (r : Bool) → ys ≡ xs → IsAnyAnswer (λ y t. eqb y a ≡ t) ys r → r ≡ member xs a
-found-member xs ys a r e h =
-    same_from_decides r (member ys a) (contains_decides eqb Decides-eqb ys a r h)
-    (Decides-by_or (λ x. eqb x a) (λ x. x ≡ a) (λ zs. member zs a) (λ x. Decides-eqb x a) refl (λ _ _. refl) ys)
-    ∙ ap (λ zs. member zs a) e
-
-observed_push : (xs : List ℕ) (a : ℕ) → observed xs ≡ true → observable a ≡ true → observed (xs ++ a ∷ []) ≡ true
-observed_push [] a h o = and_from _ _ o refl
-observed_push (x ∷ xs) a h o = let p = and_parts (observable x) (observed xs) h in and_from _ _ p.0 (observed_push xs a p.1 o)
-
-pub observed-pushed : (xs ys : List ℕ) (a : ℕ) → ys ≡ pushed xs a → observed xs ≡ true → true ≡ observable a → observed ys ≡ true
-observed-pushed xs ys a e h o =
-    subst (λ zs. observed zs ≡ true) (sym e)
-    (cond_both (ltb (length xs) capacity) (xs ++ a ∷ []) xs (λ zs. observed zs ≡ true) (λ _. observed_push xs a h (sym o)) (λ _. h))
 
 member-observable : (xs : List ℕ) (a : ℕ) → observed xs ≡ true → member xs a ≡ true → observable a ≡ true
 member-observable [] a h m = absurd (both_ways false refl m)

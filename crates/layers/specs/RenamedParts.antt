@@ -4,7 +4,8 @@
 -- known_source: some pair with this target has a source that is known.
 -- knows_renamed: whether an action is known then, as it is computed; AlphabetIsImage: what that comes to.
 -- KnownImage: an observable action that is the image of an action that the part knows.
-use Rattle.std.specs.Prelude.{◌≡◌, ℕ, Bool, true, false, not, ◌&&◌, ◌||◌, List, [], ◌∷◌, map, Decides, ◌==◌}
+use Rattle.std.specs.Prelude.{◌≡◌, ℕ, Bool, true, not, ◌&&◌, ◌||◌, List, map, Decides, ◌==◌}
+use Rattle.std.specs.List.{list_any}
 use Rattle.std.specs.Option.{option_map}
 use Rattle.words.specs.Edges.{Edge}
 use Rattle.words.specs.Words.{observable}
@@ -17,8 +18,7 @@ relabelled f e =
     record { action = f e.action; guard = e.guard; deadline = e.deadline; branches = e.branches }
 
 abbrev pub known_source : (ℕ → Bool) → List Pair → ℕ → Bool
-known_source knows [] a = false
-known_source knows (p ∷ ps) a = (p.target == a && knows p.source) || known_source knows ps a
+known_source knows ps a = list_any (λ (p : Pair). p.target == a && knows p.source) ps
 
 abbrev pub knows_renamed : List Pair → (ℕ → Bool) → ℕ → Bool
 knows_renamed ps knows a = observable a && ((knows a && not (is_source ps a)) || known_source knows ps a)

@@ -28,6 +28,8 @@ impl<P: Part> Renamed<P> {
     }
 }
 
+// Kept: one layer for both would need a trait with a method over any part, and a law for each question that goes on to
+// the part; a line for each question is plainer.
 impl<P: Part> Part for Renamed<P> {
     ghost meaning = { renamed_meaning P.Part.meaning };
 

@@ -29,8 +29,8 @@ returns-then-item-eq0-2 c =
     c.if-item-eq0-2.true
     ∙ sym (ap (λ x. deadline_word_of x c.args.item) c.in_ok-edge.ensures.answer)
 
-pub returns-else-item-eq0-2 : goal.returns-else-item-eq0-2
-returns-else-item-eq0-2 c =
+pub returns : goal.returns
+returns c =
     reasoning (constant (urge (sheet_of c.args.self.now))) (words_of c.in_ok-edge.edge.path.urgents) c.args.item c.if-item-eq0.false c.in-Some.condition.now
     (ap (λ xs. slice_get xs ((c.args.item - 1) / 2)) (sym c.as_slice.ensures) ∙ (sym (got _ _ _ c.get.ensures.lookup) ∙ ap option_copied c.in-Some.is))
     c.if-item-eq0-2.false
