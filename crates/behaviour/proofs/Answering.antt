@@ -1,6 +1,5 @@
 -- From what the code holds to what a question answers.
-use Rattle.std.proofs.Common.{◌≡◌, ℕ, zero, suc, ◌+◌, ◌-◌, ◌*◌, ◌/◌, ◌%◌, ◌<◌, ◌≤◌, Bool, cond, eqb, List, [], ◌∷◌, map, length, get_or, Some, None, Ok, Err, Option, Bor, ⊎_elim, sym, refl, ap, ◌∙◌, subst, arith}
-use Rattle.std.proofs.lemmas.List.{length-map, get_or-map}
+use Rattle.std.proofs.Common.{◌≡◌, ℕ, zero, suc, ◌+◌, ◌-◌, ◌*◌, ◌/◌, ◌%◌, ◌<◌, ◌≤◌, Bool, cond, eqb, List, [], ◌∷◌, length, get_or, Some, None, Ok, Err, Option, Bor, ⊎_elim, sym, refl, ap, ◌∙◌, subst, arith}
 use Rattle.std.proofs.lemmas.Option.{none-some, slice_get-get_or, slice_get-map, slice_get_past, slice_get_within, get_or_from_slice_get}
 use Rattle.std.proofs.lemmas.Bool.{cases_lt, cond-false, ne_eqb}
 use Rattle.std.specs.List.{slice_get, find, range_with_len, AllByRecursion}
@@ -8,33 +7,26 @@ use Rattle.std.specs.Option.{is_some, option_map, option_copied, ok_or}
 use Rattle.std.specs.Result.{MatchResult}
 use Rattle.std.specs.Slice.{IsItemAt}
 use Rattle.words.specs.Edges.{Branch, Edge, leading_to}
-use Rattle.words.specs.Words.{payload_of, constant, condition, disjunction, frame_word}
+use Rattle.words.specs.Words.{condition, disjunction}
 use Rattle.words.specs.declared.Refusal.TheVariants.{NoEdge, NoBranch, NoItem}
-use Rattle.sheet.specs.declared.chains.Survey.{Survey}
-use Rattle.sheet.specs.declared.reader.Record.{Record}
-use Rattle.sheet.specs.Layout.{urge, record_at}
-use Rattle.sheet.specs.Chains.{chain, survey_of}
+use Rattle.sheet.specs.Layout.{urge}
 use Rattle.rules.specs.Descents.{Path as Way, path_to, path_edge, urging}
-use Rattle.rules.specs.Places.{Head as Top, failed, behaviour, Place, running, beyond, head_word, code_of}
+use Rattle.rules.specs.Places.{Place, code_of}
 use Rattle.part.specs.Automata.{edge_here, ids_of}
 use Rattle.part.specs.Ids.{or_else, least_occupied}
 use Rattle.part.specs.Questions.{Answer, unless_oversized, found, edge_by_id, branch_of}
 use Rattle.part.specs.declared.Ceilings.{Ceilings}
-use Rattle.paths.specs.Paths.{words_of, code_words, head_of, path_of}
-use Rattle.paths.specs.Sheets.{assignment_at, term_at, span_at}
-use Rattle.paths.specs.declared.path.Head.{Head}
+use Rattle.paths.specs.Paths.{words_of, code_words, path_of}
+use Rattle.paths.specs.Sheets.{term_at, span_at}
 use Rattle.paths.specs.declared.path.Path.{Path}
 use Rattle.paths.proofs.Loading.{loaded}
 use Rattle.extent.specs.Bounds.{greatest_span}
 use Rattle.edges.specs.Edges.{edge_of, outcomes_of, branch_from}
 use Rattle.edges.specs.declared.edge.Branch.{Branch as OwnBranch}
 use Rattle.edges.specs.declared.edge.Edge.{Edge as OwnEdge}
-use Rattle.edges.specs.declared.frame.Goal.{Goal}
-use Rattle.edges.specs.declared.frame.Goal.TheVariants.{At}
-use Rattle.edges.specs.Frames.{standing}
 use Rattle.behaviour.specs.Automata.{coded}
 use Rattle.behaviour.specs.Behaviours.{sheet_of, table_of, here_of, meaning_of, EdgeHere, BranchHere}
-use Rattle.behaviour.specs.Outcomes.{outcome_of, Numbered}
+use Rattle.behaviour.specs.Outcomes.{outcome_of}
 use Rattle.behaviour.specs.declared.behaviour.Behaviour.{Behaviour}
 use Rattle.behaviour.specs.EdgesRight.{BranchRight, EdgeRight, edge_right}
 use Rattle.behaviour.specs.Law.{path_full, slots_at_lem}

@@ -3,13 +3,13 @@ ghost use Rattle.std.specs.Prelude.{◌≡◌, [], length};
 ghost use Rattle.std.specs.List.{slice_get};
 ghost use Rattle.rules.specs.Places.{running, code_of, head_word};
 ghost use Rattle.paths.specs.Paths.{head_of};
-ghost use Rattle.paths.specs.CodeWords.{word_of};
+ghost use Rattle.words.specs.CodeWords.{word_of};
 ghost use Rattle.edges.specs.Edges.{branch_from};
 ghost use Rattle.behaviour.specs.Outcomes.{outcome_of, Numbered};
 
 use edges::{Branch, Goal};
-use paths::CodeWord;
 use rules::is_beyond;
+use words::CodeWord;
 
 /// How many words the code of a branch's outcome has; 0 where it lies beyond.
 pub(crate) fn outcome_length(branch: &Branch) -> usize

@@ -6,8 +6,7 @@ use crate::behaviour::Behaviour;
 use crate::outcome::{outcome_length, outcome_word};
 use extent::{is_place_in, knows_in};
 use part::{Assignment, Ceilings, Part};
-use paths::CodeWord;
-use words::{NONE, Refusal, payload};
+use words::{CodeWord, NONE, Refusal, payload};
 
 // Kept: these numbers are the stated format of a deadline's words.
 

@@ -11,10 +11,7 @@ ghost use Rattle.edges.specs.Frames.{role_by, role_from, aim, standing, landed, 
 use model::Model;
 use paths::{Head, Stack};
 use sheet::Step;
-use words::is_exception;
-
-/// The action of a break.
-pub(crate) const BREAK: u32 = 0x4000_0000;
+use words::{BREAK, is_exception};
 
 /// Where an outcome is, but for its frames: done, or at a head.
 // Kept: as an Option of a head it would stand inside another Option, as in `cut_at`.

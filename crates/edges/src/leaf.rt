@@ -5,19 +5,11 @@ ghost use Rattle.paths.specs.Paths.{head_of};
 ghost use Rattle.paths.specs.Sheets.{term_at};
 ghost use Rattle.edges.specs.Leaves.{action_by, ways_by, branches_from};
 
-use crate::frame::{BREAK, Goal};
+use crate::frame::Goal;
 use model::Model;
 use paths::Head;
 use sheet::Step;
-use words::NONE;
-
-// Kept: these numbers are the stated format of an action's word.
-
-/// The silent action.
-pub(crate) const TAU: u32 = 0;
-
-/// The action of the error.
-const ERROR: u32 = 0x5000_0000;
+use words::{BREAK, ERROR, NONE, TAU};
 
 /// The branches of an edge, before it passes frames.
 #[derive(Clone, Copy)]

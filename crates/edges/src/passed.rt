@@ -13,10 +13,10 @@ ghost use Rattle.edges.specs.Edges.{edge_of, outcomes_of, branch_from, branch_by
 
 use crate::edge::{Branch, Edge};
 use crate::frame::{Goal, cut, land};
-use crate::leaf::{TAU, Ways, leaf_action, leaf_ways};
+use crate::leaf::{Ways, leaf_action, leaf_ways};
 use model::Model;
 use paths::{Head, Path};
-use words::{NONE, payload};
+use words::{NONE, TAU, payload};
 
 /// A branch before it passes frames.
 // Kept: a branch has these fields too, but its goal stands under the frames beside it.

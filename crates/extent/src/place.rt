@@ -3,9 +3,9 @@ ghost use Rattle.std.specs.Prelude.{◌≡◌};
 ghost use Rattle.paths.specs.Places.{is_behaviour, is_frame_step, behaviour_at, frame_at, is_head_word, is_frame_word, are_frame_words, is_running, is_place};
 
 use model::Model;
-use paths::CodeWord;
 use rules::most_frames;
 use sheet::Step;
+use words::CodeWord;
 
 fn is_behaviour_step(step: Step) -> bool
     ensures { result ≡ is_behaviour step }
@@ -42,7 +42,7 @@ fn is_head_word(model: &Model, word: u32) -> bool
     match CodeWord::try_from(word) {
         Ok(CodeWord::Failed) => true,
         Ok(CodeWord::Record(number)) => is_behaviour(model, number),
-        Ok(CodeWord::Done | CodeWord::Frame(_)) | Err(_) => false,
+        Ok(CodeWord::Done | CodeWord::Frame(_) | CodeWord::Pair(_)) | Err(_) => false,
     }
 }
 
@@ -51,7 +51,8 @@ fn is_frame_word(model: &Model, word: u32) -> bool
 {
     match CodeWord::try_from(word) {
         Ok(CodeWord::Frame(number)) => is_frame(model, number),
-        Ok(CodeWord::Done | CodeWord::Failed | CodeWord::Record(_)) | Err(_) => false,
+        Ok(CodeWord::Done | CodeWord::Failed | CodeWord::Record(_) | CodeWord::Pair(_)) | Err(_) =>
+            false,
     }
 }
 
@@ -77,8 +78,6 @@ pub fn is_place_in(model: &Model, code: &[u32]) -> bool
     };
     match CodeWord::try_from(*head) {
         Ok(CodeWord::Done) => frames.is_empty(),
-        Ok(CodeWord::Failed | CodeWord::Record(_) | CodeWord::Frame(_)) | Err(_) => {
-            is_running(model, *head, frames)
-        }
+        _ => is_running(model, *head, frames),
     }
 }

@@ -1,17 +1,8 @@
 // One pair of a renaming.
 ghost use Rattle.std.specs.Prelude.{◌≡◌};
-ghost use Rattle.words.specs.Words.{exception};
 ghost use Rattle.layers.specs.Renamings.{right};
 
-use words::{is_observable, kind};
-
-// Kept: these numbers are the stated format of an action's word.
-
-/// The silent action.
-const TAU: u32 = 0;
-
-/// The kind of exceptions.
-const EXCEPTION: u32 = 3;
+use words::{TAU, is_exception, is_observable};
 
 /// An action and what it is renamed to.
 #[derive(Clone, Copy, Default)]
@@ -31,11 +22,4 @@ impl Pair {
             is_exception(self.source) && is_exception(self.target)
         }
     }
-}
-
-/// Whether a word is an exception.
-fn is_exception(action: u32) -> bool
-    ensures { result ≡ exception action }
-{
-    kind(action) == EXCEPTION
 }

@@ -9,8 +9,8 @@ use Rattle.lines.specs.declared.letters.Action.{Action}
 use Rattle.lines.specs.declared.letters.Action.TheVariants.{Tau, Patient, Impatient, Exception, Break, Error}
 use Rattle.lines.specs.declared.letters.Term.{Term}
 use Rattle.lines.specs.declared.letters.Term.TheVariants.{Constant, Condition, And, Or}
-use Rattle.lines.specs.declared.letters.CodeWord.{CodeWord}
-use Rattle.lines.specs.declared.letters.CodeWord.TheVariants.{Done, Failed, Record, Frame, Pair}
+use Rattle.words.specs.declared.code_word.CodeWord.{CodeWord}
+use Rattle.words.specs.declared.code_word.CodeWord.TheVariants.{Done, Failed, Record, Frame, Pair}
 
 -- what a word stands for: as an action, as a deadline's word, as a place's word
 abbrev pub action_of : ℕ → Action

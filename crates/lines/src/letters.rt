@@ -4,7 +4,7 @@ ghost use Rattle.lines.specs.Letters.{action_of, action_text, term_of, term_text
 ghost use Rattle.lines.specs.Printing.{Puts};
 
 use crate::line::{Line, Spell};
-use words::{Refusal, kind, payload};
+use words::{CodeWord, Refusal, kind, payload};
 
 /// What an edge does.
 #[derive(Clone, Copy)]
@@ -24,17 +24,6 @@ pub(crate) enum Term {
     Condition(u32),
     And,
     Or,
-}
-
-/// A word of a place's code.
-#[derive(Clone, Copy)]
-pub(crate) enum CodeWord {
-    Done,
-    Failed,
-    Record(u32),
-    Frame(u32),
-    /// A pair, with the length of its left part.
-    Pair(u32),
 }
 
 impl From<u32> for Action {
@@ -65,17 +54,16 @@ impl From<u32> for Term {
     }
 }
 
-impl From<u32> for CodeWord {
-    ghost from_gives = { λ word w. w ≡ code_word_of word };
-
-    fn from(word: u32) -> CodeWord {
-        match kind(word) {
-            8 if payload(word) == 0 => CodeWord::Done,
-            8 => CodeWord::Failed,
-            9 => CodeWord::Record(payload(word)),
-            10 => CodeWord::Frame(payload(word)),
-            _ => CodeWord::Pair(payload(word)),
-        }
+/// A word of a place's code; whatever is none counts as a pair.
+pub(crate) fn code_word(word: u32) -> CodeWord
+    ensures { result ≡ code_word_of word }
+{
+    match kind(word) {
+        8 if payload(word) == 0 => CodeWord::Done,
+        8 => CodeWord::Failed,
+        9 => CodeWord::Record(payload(word)),
+        10 => CodeWord::Frame(payload(word)),
+        _ => CodeWord::Pair(payload(word)),
     }
 }
 

@@ -7,7 +7,7 @@ ghost use Rattle.lines.specs.Letters.{term_of, term_text};
 ghost use Rattle.lines.specs.Lines.{spaced, bracketed, pair_text, code_text};
 ghost use Rattle.lines.specs.Printing.{Puts};
 
-use crate::letters::{CodeWord, Term};
+use crate::letters::{Term, code_word};
 use crate::line::{Line, Spell};
 use words::Refusal;
 
@@ -125,5 +125,5 @@ pub(crate) fn put_code(line: &mut Line<'_>, code: &[u32]) -> Result<(), Refusal>
     if code.is_empty() {
         return line.put(b"~");
     }
-    put_each(line, b"", code.iter().map(|word| CodeWord::from(*word)))
+    put_each(line, b"", code.iter().map(|word| code_word(*word)))
 }

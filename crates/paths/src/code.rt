@@ -3,8 +3,8 @@ ghost use Rattle.std.specs.Prelude.{◌≡◌, [], ◌∷◌};
 ghost use Rattle.words.specs.Words.{record_word, payload_of};
 ghost use Rattle.paths.specs.Paths.{code_words};
 
-use crate::word::CodeWord;
 use bounded::Bounded;
+use words::CodeWord;
 
 /// The code of a place: at most 65 words, one for its head and one for each of 64 frames.
 #[derive(Clone, Copy)]

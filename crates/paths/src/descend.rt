@@ -9,11 +9,10 @@ ghost use Rattle.paths.specs.Sheets.{term_of, term_at, span_at};
 
 use crate::code::Code;
 use crate::path::{Head, Path, arriving};
-use crate::word::CodeWord;
 use descent::span;
 use model::Model;
 use sheet::{Reader, Step};
-use words::payload;
+use words::{CodeWord, payload};
 
 /// How many slots a record has; one that is no behaviour reads as a stop, which has one.
 fn slots(model: &Model, number: u32) -> usize
@@ -106,7 +105,7 @@ fn head_named(word: u32) -> Option<Head>
         Ok(CodeWord::Done) => None,
         Ok(CodeWord::Failed) => Some(Head::Failed),
         Ok(CodeWord::Record(number)) => Some(Head::Behaviour(number)),
-        Ok(CodeWord::Frame(_)) | Err(_) => Some(Head::Behaviour(payload(word))),
+        Ok(CodeWord::Frame(_) | CodeWord::Pair(_)) | Err(_) => Some(Head::Behaviour(payload(word))),
     }
 }
 

@@ -11,4 +11,3 @@ pub use code::Code;
 pub use descend::path_to;
 pub use path::{Head, Path};
 pub use stack::Stack;
-pub use word::{CodeWord, NoCodeWord};

@@ -1,42 +1,9 @@
-// The words of a place's code.
+// What a head's word is in a place's code.
 ghost use Rattle.std.specs.Prelude.{◌≡◌};
-ghost use Rattle.paths.specs.CodeWords.{word_of, saying, Reads};
+ghost use Rattle.paths.specs.CodeWords.{saying};
 
 use crate::path::Head;
-use words::{kind, payload};
-
-/// What a word of a place's code says.
-#[derive(Clone, Copy)]
-pub enum CodeWord {
-    /// The place is done.
-    Done,
-    /// The error runs inside all frames.
-    Failed,
-    /// A record runs inside all frames.
-    Record(u32),
-    /// A record is a frame.
-    Frame(u32),
-}
-
-/// The answer to a word that stands in no place's code.
-#[derive(Clone, Copy)]
-pub struct NoCodeWord;
-
-impl TryFrom<u32> for CodeWord {
-    type Error = NoCodeWord;
-
-    ghost try_from_gives = { Reads };
-
-    fn try_from(word: u32) -> Result<CodeWord, NoCodeWord> {
-        match (kind(word), payload(word)) {
-            (8, 0) => Ok(CodeWord::Done),
-            (8, 1) => Ok(CodeWord::Failed),
-            (9, number) => Ok(CodeWord::Record(number)),
-            (10, number) => Ok(CodeWord::Frame(number)),
-            _ => Err(NoCodeWord),
-        }
-    }
-}
+use words::CodeWord;
 
 /// What the first word of a place's code says of the head.
 impl From<Head> for CodeWord {
@@ -46,20 +13,6 @@ impl From<Head> for CodeWord {
         match head {
             Head::Failed => CodeWord::Failed,
             Head::Behaviour(number) => CodeWord::Record(number),
-        }
-    }
-}
-
-/// Of a record's number the payload counts.
-impl From<CodeWord> for u32 {
-    ghost from_gives = { λ said word. word ≡ word_of said };
-
-    fn from(said: CodeWord) -> u32 {
-        match said {
-            CodeWord::Done => 0x8000_0000,
-            CodeWord::Failed => 0x8000_0001,
-            CodeWord::Record(number) => 0x9000_0000 + payload(number),
-            CodeWord::Frame(number) => 0xA000_0000 + payload(number),
         }
     }
 }

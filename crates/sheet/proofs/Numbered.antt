@@ -1,5 +1,5 @@
 -- A head's number is that of its kind.
-use Rattle.std.proofs.Common.{◌≡◌, ◌≤◌, ℕ, Some, None, Option, arith}
+use Rattle.std.proofs.Common.{◌≡◌, ◌≤◌, ℕ, Some, None, arith}
 use Rattle.std.proofs.lemmas.Bool.Decides.{nat_tests}
 use Rattle.sheet.specs.declared.kinds.Kind.{Kind}
 use Rattle.sheet.specs.declared.kinds.Kind.TheVariants.{Stop, Act, Branch, Assignment, Break, Throw, Alt, Seq, Loop, Try, Catch, When, Urgent, Call}

@@ -1,4 +1,5 @@
 pub mod Checks
+pub mod CodeWords
 pub mod Edges
 pub mod Refusals
 pub mod Words

@@ -6,6 +6,10 @@ ghost use Rattle.words.specs.Checks.{unless, Tested};
 ghost use Rattle.words.specs.Refusals.{number_of};
 ghost use Rattle.words.specs.Words.{kind_of, payload_of, observable, exception, header_admits};
 
+mod code_word;
+
+pub use code_word::{CodeWord, NoCodeWord};
+
 /// The word that stands where a reference is left out.
 pub const NONE: u32 = 0xFFFF_FFFF;
 
@@ -149,6 +153,12 @@ impl HeaderWord {
 
 /// The silent action.
 pub const TAU: u32 = 0;
+
+/// The action of a break, which leaves a loop.
+pub const BREAK: u32 = 0x4000_0000;
+
+/// The action of the error.
+pub const ERROR: u32 = 0x5000_0000;
 
 /// The kind of an exception.
 const EXCEPTION: u32 = 3;

@@ -1,4 +1,4 @@
-use Rattle.std.proofs.Common.{ℕ, ◌≡◌, ◌≤◌, ◌*◌, sym, ap, ◌∙◌, arith, length}
+use Rattle.std.proofs.Common.{◌≤◌, ◌*◌, ap, ◌∙◌, arith, length}
 use Rattle.sheet.specs.Layout.{records}
 use Rattle.sheet.specs.Chains.{chain, total_weight}
 use Rattle.sheet.specs.Links.{links_left}
