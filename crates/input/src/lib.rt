@@ -27,5 +27,8 @@ pub fn decode(heap: Global, bytes: &[u8]) -> Result<Vec<u32>, AllocError>
     ensures { IfOk result (λ v. v.items ≡ words_of bytes.now) }
 {
     let (fours, _) = bytes.as_chunks::<4>();
-    fours.iter().map(|four| u32::from_le_bytes(*four)).collect(heap)
+    fours
+        .iter()
+        .map(|four| u32::from_le_bytes(*four))
+        .collect(heap)
 }
