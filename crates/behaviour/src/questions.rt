@@ -6,14 +6,7 @@ use crate::behaviour::Behaviour;
 use crate::outcome::{outcome_length, outcome_word};
 use extent::{is_place_in, knows_in};
 use part::{Assignment, Ceilings, Part};
-use words::{CodeWord, NONE, Refusal, payload};
-
-// Kept: these numbers are the stated format of a deadline's words.
-
-/// A condition in a deadline, and the word that joins two terms of one by "or".
-const CONDITION: u32 = 0x1000_0000;
-
-const OR: u32 = 0x3000_0000;
+use words::{CodeWord, NONE, Refusal, Term, payload};
 
 impl Part for Behaviour {
     ghost meaning = { meaning_of };
@@ -76,9 +69,9 @@ impl Part for Behaviour {
             return Err(Refusal::NoItem);
         };
         if item % 2 == 0 {
-            return Ok(OR);
+            return Ok(Term::Or.into());
         }
-        Ok(CONDITION + *condition)
+        Ok(Term::Condition(*condition).into())
     }
 
     fn branch_count(&self, id: usize) -> Result<usize, Refusal> {

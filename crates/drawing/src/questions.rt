@@ -5,7 +5,7 @@ ghost use Rattle.drawing.specs.Law.{drawing_lawful};
 use crate::alphabet::in_alphabet;
 use crate::drawing::Drawing;
 use crate::items::item_of;
-use crate::places::{DONE, is_place_word};
+use crate::places::{is_done, is_place_word};
 use part::{Assignment, Ceilings, Part};
 use words::Refusal;
 
@@ -33,7 +33,7 @@ impl Part for Drawing {
     }
 
     fn is_done(&self) -> Result<bool, Refusal> {
-        Ok(self.place == DONE)
+        Ok(is_done(self.place))
     }
 
     fn knows(&self, action: u32) -> Result<bool, Refusal> {

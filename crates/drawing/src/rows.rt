@@ -5,15 +5,7 @@ ghost use Rattle.drawing.specs.Checks.{from_before, from_right, label_right, con
 use crate::alphabet::in_alphabet;
 use crate::places::{is_drawn, is_place_word};
 use crate::table::{HEADER, ROW, Row, Table};
-use words::{Fault, NONE, Refusal, TAU, expect_each, is_exception, kind, payload};
-
-// Kept: a kind means one thing in one field and another in the next, so no one enum names the kinds of words.
-
-/// The kind of a plain number, and of a deadline that is a constant.
-const NUMBER_KIND: u32 = 0;
-
-/// The kind of a deadline that is a condition.
-const CONDITION_KIND: u32 = 1;
+use words::{Fault, NONE, Refusal, TAU, Term, expect_each, is_exception, kind};
 
 /// Whether a row may begin at a place after a row that begins at another.
 fn from_right(table: &Table<'_>, last: u32, word: u32) -> bool
@@ -33,14 +25,17 @@ fn label_right(table: &Table<'_>, word: u32) -> bool
 fn condition_right(word: u32) -> bool
     ensures { result ≡ condition_right word }
 {
-    word == NONE || kind(word) == NUMBER_KIND
+    word == NONE || kind(word) == 0
 }
 
 /// Whether a word is a deadline: a constant, false or true, or a condition.
 fn deadline_right(word: u32) -> bool
     ensures { result ≡ deadline_right word }
 {
-    kind(word) == NUMBER_KIND && payload(word) <= 1 || kind(word) == CONDITION_KIND
+    matches!(
+        Term::try_from(word),
+        Ok(Term::Constant(_) | Term::Condition(_))
+    )
 }
 
 /// Whether word j of a row is right, after a row that begins at the place `last`.

@@ -7,8 +7,8 @@ use Rattle.std.specs.Prelude.{ℕ, cond, not, List, ◌++◌, codes, decimal, �
 use Rattle.words.specs.Words.{kind_of, payload_of}
 use Rattle.lines.specs.declared.letters.Action.{Action}
 use Rattle.lines.specs.declared.letters.Action.TheVariants.{Tau, Patient, Impatient, Exception, Break, Error}
-use Rattle.lines.specs.declared.letters.Term.{Term}
-use Rattle.lines.specs.declared.letters.Term.TheVariants.{Constant, Condition, And, Or}
+use Rattle.words.specs.declared.term.Term.{Term}
+use Rattle.words.specs.declared.term.Term.TheVariants.{Constant, Condition, And, Or}
 use Rattle.words.specs.declared.code_word.CodeWord.{CodeWord}
 use Rattle.words.specs.declared.code_word.CodeWord.TheVariants.{Done, Failed, Record, Frame, Pair}
 

@@ -4,7 +4,7 @@ ghost use Rattle.lines.specs.Letters.{action_of, action_text, term_of, term_text
 ghost use Rattle.lines.specs.Printing.{Puts};
 
 use crate::line::{Line, Spell};
-use words::{CodeWord, Refusal, kind, payload};
+use words::{CodeWord, Refusal, Term, kind, payload};
 
 /// What an edge does.
 #[derive(Clone, Copy)]
@@ -15,15 +15,6 @@ pub(crate) enum Action {
     Exception(u32),
     Break,
     Error,
-}
-
-/// A word of a deadline.
-#[derive(Clone, Copy)]
-pub(crate) enum Term {
-    Constant(bool),
-    Condition(u32),
-    And,
-    Or,
 }
 
 impl From<u32> for Action {
@@ -41,16 +32,15 @@ impl From<u32> for Action {
     }
 }
 
-impl From<u32> for Term {
-    ghost from_gives = { λ word term. term ≡ term_of word };
-
-    fn from(word: u32) -> Term {
-        match kind(word) {
-            0 => Term::Constant(payload(word) != 0),
-            1 => Term::Condition(payload(word)),
-            2 => Term::And,
-            _ => Term::Or,
-        }
+/// A word of a deadline; whatever is none counts as an "or".
+pub(crate) fn term(word: u32) -> Term
+    ensures { result ≡ term_of word }
+{
+    match kind(word) {
+        0 => Term::Constant(payload(word) != 0),
+        1 => Term::Condition(payload(word)),
+        2 => Term::And,
+        _ => Term::Or,
     }
 }
 

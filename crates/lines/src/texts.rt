@@ -7,7 +7,7 @@ ghost use Rattle.lines.specs.Letters.{term_of, term_text};
 ghost use Rattle.lines.specs.Lines.{spaced, bracketed, pair_text, code_text};
 ghost use Rattle.lines.specs.Printing.{Puts};
 
-use crate::letters::{Term, code_word};
+use crate::letters::{code_word, term};
 use crate::line::{Line, Spell};
 use words::Refusal;
 
@@ -108,7 +108,7 @@ pub(crate) fn put_guard(line: &mut Line<'_>, guard: &[u32]) -> Result<(), Refusa
 pub(crate) fn put_deadline(line: &mut Line<'_>, deadline: &[u32]) -> Result<(), Refusal>
     ensures { Puts line.old (bracketed (spaced term_text (map term_of deadline.now))) result line.new }
 {
-    put_row(line, deadline.iter().map(|word| Term::from(*word)))
+    put_row(line, deadline.iter().map(|word| term(*word)))
 }
 
 /// Puts pairs of a variable and an expression.

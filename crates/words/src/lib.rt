@@ -7,8 +7,10 @@ ghost use Rattle.words.specs.Refusals.{number_of};
 ghost use Rattle.words.specs.Words.{kind_of, payload_of, observable, exception, header_admits};
 
 mod code_word;
+mod term;
 
 pub use code_word::{CodeWord, NoCodeWord};
+pub use term::{NoTerm, Term};
 
 /// The word that stands where a reference is left out.
 pub const NONE: u32 = 0xFFFF_FFFF;
