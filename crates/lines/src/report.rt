@@ -34,7 +34,6 @@ struct BranchLine<'a> {
 impl Spell for Head {
     ghost text = { λ l. head_text l.edges };
 
-    #[tactic(auto, unfolding(crate::specs::Lines::head_text))]
     fn spell(&self, line: &mut Line<'_>) -> Result<(), Refusal> {
         line.put(b"edges ")?;
         line.put_number(self.edges)
