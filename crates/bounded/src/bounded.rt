@@ -8,6 +8,8 @@ use std::alloc::AllocError;
 #[derive(Clone, Copy, PartialEq, Eq, Debug)]
 pub struct Full;
 
+// Kept: a buffer with a count, since these lists are copied and nothing is allocated for them; the kit's `ArrayVec` is no `Copy`.
+
 /// At most N entries, in the order in which they were put.
 pub struct Bounded<T, const N: usize> {
     entries: [T; N],
@@ -16,6 +18,7 @@ pub struct Bounded<T, const N: usize> {
     ghost fits: { count ≤ N },
 }
 
+// Kept: written out, since a derive refuses a generic struct with ghost fields.
 impl<T: Copy, const N: usize> Copy for Bounded<T, N> {}
 
 impl<T: Copy, const N: usize> Clone for Bounded<T, N> {

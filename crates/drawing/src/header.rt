@@ -11,6 +11,8 @@ const MOST_ROWS: u32 = 4096;
 
 const MOST_ACTIONS: u32 = 64;
 
+// Kept: each format has a header of its own; what the two share is `HeaderWord` and `expect_each`.
+
 /// What each word of the header must be: there is a place to start at.
 fn header_word(i: usize) -> HeaderWord
     requires { i < 3 }

@@ -36,6 +36,7 @@ impl Row {
 }
 
 /// The lent words of a drawing.
+// Kept: beside the reader of a sheet, since the two share no header word; what they share is `word_at`.
 #[derive(Clone, Copy)]
 pub(crate) struct Table<'a> {
     words: &'a [u32],

@@ -117,6 +117,8 @@ fn done_at(model: &Model, frame: u32) -> Goal
     }
 }
 
+// Kept: a loop like that of `cut`, which stops at another step of a frame; one for both would take the step as a closure.
+
 /// Where what is done goes on under frames: at the first seq or loop among them.
 fn land_done(model: &Model, frames: &Stack) -> Landing
     ensures { landed result ≡ done_under (term_at model.now.words.items) (listed frames.now) }

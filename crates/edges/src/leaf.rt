@@ -12,6 +12,7 @@ use sheet::Step;
 use words::{BREAK, ERROR, NONE, TAU};
 
 /// The branches of an edge, before it passes frames.
+// Kept: `Nothing` is one of three cases; an Option around the other two would be matched twice.
 #[derive(Clone, Copy)]
 pub(crate) enum Ways {
     Nothing,

@@ -36,6 +36,7 @@ pub(crate) enum Field {
 }
 
 /// What the words of a kind of record may hold.
+// Kept: four named fields, as the format has them, and not an array, whose places would be numbers.
 #[derive(Clone, Copy)]
 pub(crate) struct Layout {
     pub payload: Field,

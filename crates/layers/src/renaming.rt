@@ -7,6 +7,8 @@ use crate::pair::Pair;
 use crate::table::Table;
 use words::Refusal;
 
+// Kept: a list that is searched from its front, since a map takes memory, and nothing is allocated where questions run.
+
 /// At most 32 pairs of an action and what it is renamed to, no two of them with the same source.
 ///
 /// All pairs are applied at once: what an action is renamed to is not renamed again.

@@ -4,6 +4,8 @@ ghost use Rattle.words.specs.Words.{word};
 ghost use Rattle.lists.specs.Format.{payloads};
 ghost use Rattle.lists.specs.Headings.{kind_number};
 
+use words::PAYLOADS;
+
 /// What a heading gives the number of, by the kind of its word.
 #[derive(Clone, Copy, PartialEq, Eq, Debug)]
 pub(crate) enum Heading {
@@ -20,9 +22,6 @@ pub(crate) enum Heading {
     /// The branches of an edge.
     Branches = 15,
 }
-
-/// A payload is below this number.
-const PAYLOADS: u32 = 0x1000_0000;
 
 impl Heading {
     /// The word that gives a number.

@@ -19,6 +19,7 @@ pub use record::Open;
 /// The end of a list that is being written, and the number of its edges.
 ///
 /// The list's words are lent beside it to each call that reads or writes them.
+// Kept: the words stay beside it, since the public calls take them so, and a mark that held them would lend them out anew in each.
 #[derive(Drop)]
 pub struct Mark {
     end: usize,

@@ -14,6 +14,7 @@ const MOST_EDGES: usize = 268_435_455;
 pub struct Open<'w> {
     mark: &'w mut Mark,
     start: usize,
+    // Kept: `put` never fails, which is promised, so that a word found no room is told by `close`.
     full: bool,
 }
 

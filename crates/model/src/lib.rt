@@ -11,6 +11,8 @@ mod reads;
 pub use loader::load;
 use words::Fault;
 
+// Kept: words and table lie beside each other, and records name records by number, since both are handed in and given back so.
+
 /// A sheet that was found right, and its work table: for each behaviour depth times 65,536 plus span.
 #[derive(Drop)]
 pub struct Model {

@@ -16,6 +16,7 @@ pub mod numbered;
 pub use ids::{EdgeIds, edge_ids};
 
 /// Bounds over all places of a part; all 0 where they are too large to be told.
+// Kept: all 0 is what users are told of an oversized part, so it is no Option.
 #[derive(Clone, Copy, PartialEq, Eq, Debug)]
 pub struct Ceilings {
     /// One more than the edges at any place, and above every edge's id.

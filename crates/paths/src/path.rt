@@ -5,6 +5,8 @@ ghost use Rattle.paths.specs.Paths.{head_of, found};
 
 use crate::stack::Stack;
 
+// Kept: not an Option of a record, since the error is something that runs, not the lack of it.
+
 /// What runs inside all frames: a record, or the error that is left where nobody caught an exception.
 #[derive(Clone, Copy)]
 pub enum Head {

@@ -5,6 +5,7 @@ ghost use Rattle.sheet.specs.Layout.{processes, records, urge, body, position, f
 use words::{payload, word_at};
 
 /// A record of a sheet: its head and three fields. One that is not there reads as all 0.
+// Kept: `record` always answers a record, which is promised, so one that is not there is no `None`.
 #[derive(Clone, Copy, PartialEq, Eq, Debug, Default)]
 pub struct Record {
     pub head: u32,

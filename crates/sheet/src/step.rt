@@ -31,6 +31,7 @@ pub enum Step {
 }
 
 /// Where a record descends.
+// Kept: a case of its own for what is no behaviour; an Option around it would only move that case out of the list.
 #[derive(Clone, Copy, PartialEq, Eq, Debug)]
 pub enum Below {
     /// It is no behaviour.

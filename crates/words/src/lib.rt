@@ -13,10 +13,11 @@ pub use code_word::{CodeWord, NoCodeWord};
 pub use term::{NoTerm, Term};
 
 /// The word that stands where a reference is left out.
+// Kept: a reference is a word of a sheet or a drawing, in which the format has this number for none.
 pub const NONE: u32 = 0xFFFF_FFFF;
 
 /// The payload of a word is below this number; its kind is what lies above.
-const PAYLOADS: u32 = 0x1000_0000;
+pub const PAYLOADS: u32 = 0x1000_0000;
 
 /// Why something handed in was refused.
 #[derive(Clone, Copy, PartialEq, Eq, Debug)]
@@ -152,6 +153,8 @@ impl HeaderWord {
         kind(word) == self.kind && self.least <= payload(word) && payload(word) <= self.most
     }
 }
+
+// Kept: an action is one word of a sheet, a drawing and a list, and is compared and passed on as that word.
 
 /// The silent action.
 pub const TAU: u32 = 0;
