@@ -58,3 +58,21 @@ pub fn part_text<P: Part>(heap: Global, part: &P, room: usize) -> Result<Vec<u8>
 {
     listing_text(heap, part, room).or_else(|why| explain(heap, why))
 }
+
+#[cfg(test)]
+mod tests {
+    use super::*;
+    use std::test::Fail;
+    use words::Fault;
+
+    #[test]
+    fn a_fault_is_told_by_its_number_and_place(rt: HostRuntime) -> Result<(), Fail> {
+        let fault = Fault {
+            refusal: Refusal::Recursion,
+            place: 7,
+        };
+        let text = explain(rt.alloc(), Failure::Faulty(fault))?;
+        assert_eq!(rt; text.as_slice(), b"refused 18 at 7\n".as_slice());
+        Ok(())
+    }
+}
