@@ -5,7 +5,7 @@ ghost use Rattle.drawing.specs.Checks.{from_before, from_right, label_right, con
 use crate::alphabet::in_alphabet;
 use crate::places::{is_drawn, is_place_word};
 use crate::table::{HEADER, ROW, Row, Table};
-use words::{Fault, NONE, Refusal, TAU, Term, expect_each, is_exception, kind};
+use words::{Fault, NONE, Refusal, TAU, Term, expect_each, is_exception, is_number};
 
 /// Whether a row may begin at a place after a row that begins at another.
 fn from_right(table: &Table<'_>, last: u32, word: u32) -> bool
@@ -25,7 +25,7 @@ fn label_right(table: &Table<'_>, word: u32) -> bool
 fn condition_right(word: u32) -> bool
     ensures { result ≡ condition_right word }
 {
-    word == NONE || kind(word) == 0
+    word == NONE || is_number(word)
 }
 
 /// Whether a word is a deadline: a constant, false or true, or a condition.

@@ -1,7 +1,7 @@
 // Words and refusals: what every other crate of the bench speaks in.
 #![tactic(auto)]
 
-ghost use Rattle.std.specs.Prelude.{◌≡◌, ℕ, ◌+◌, ◌*◌, ◌/◌, ◌%◌, ◌^◌, ◌<◌, slice_index};
+ghost use Rattle.std.specs.Prelude.{◌≡◌, ℕ, ◌+◌, ◌*◌, ◌/◌, ◌%◌, ◌^◌, ◌<◌, ◌==◌, slice_index};
 ghost use Rattle.words.specs.Checks.{unless, Tested};
 ghost use Rattle.words.specs.Refusals.{number_of};
 ghost use Rattle.words.specs.Words.{kind_of, payload_of, observable, exception, header_admits};
@@ -167,6 +167,13 @@ pub const ERROR: u32 = 0x5000_0000;
 
 /// The kind of an exception.
 const EXCEPTION: u32 = 3;
+
+/// Whether a word is a plain number.
+pub fn is_number(word: u32) -> bool
+    ensures { result ≡ (kind_of word == 0) }
+{
+    kind(word) == 0
+}
 
 /// Whether a word is an exception.
 pub fn is_exception(action: u32) -> bool
