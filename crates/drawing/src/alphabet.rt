@@ -33,6 +33,7 @@ pub(crate) fn check_alphabet(table: &Table<'_>) -> Result<(), Fault>
 }
 
 /// Whether an action is in the alphabet.
+// Kept: not `contains` on a slice, since words past the end count as 0 here too, as everywhere.
 pub(crate) fn in_alphabet(table: &Table<'_>, action: u32) -> bool
     ensures { result ≡ in_alphabet table.now.words.now action }
 {

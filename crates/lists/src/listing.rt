@@ -2,7 +2,7 @@
 ghost use Rattle.std.specs.Prelude.{◌≡◌, ℕ, ◌<◌, ◌≤◌, true, List, length, is_ok, Ok};
 ghost use Rattle.words.specs.Edges.{Edge};
 ghost use Rattle.part.specs.Automata.{edges_here};
-ghost use Rattle.part.specs.Questions.{edge_by_id};
+ghost use Rattle.part.specs.Questions.{ids_from, edge_by_id};
 ghost use Rattle.lists.specs.Listing.{listing_of, buffer_after, refusal_of, written};
 ghost use Rattle.lists.specs.Reading.{edges_in};
 ghost use Rattle.lists.specs.Records.{most_listed};
@@ -10,7 +10,7 @@ ghost use Rattle.lists.specs.Runs.{AddedIfRoom, AddedLeading};
 
 use crate::writer::PartEdge;
 use crate::{Counts, Mark};
-use part::{Part, edge_ids};
+use part::{EdgeIds, Part, edge_ids};
 use words::Refusal;
 
 /// Why a listing was not accepted.
@@ -41,13 +41,13 @@ pub fn list<P: Part>(part: &P, words: &mut [u32]) -> Result<Counts, Unlisted>
     ensures determined { 0 < (P.Part.meaning part.now).automaton.ceilings.edges
         → edges_in words.new ≡ written (length words.old) (edges_here (P.Part.meaning part.now)) }
 {
-    if part.ceilings().edges == 0 {
+    let Ok(ids) = edge_ids(part) else {
         return Err(Unlisted::Oversized);
-    }
+    };
     let Some(mut mark) = Mark::begin(words) else {
         return Err(Unlisted::TooLong(Counts { edges: 0, words: 0 }));
     };
-    let whole = add_edges(part, &mut mark, words);
+    let whole = add_edges(part, ids, &mut mark, words);
     let counts = mark.end(words);
     match whole {
         Ok(()) => Ok(counts),
@@ -56,13 +56,19 @@ pub fn list<P: Part>(part: &P, words: &mut [u32]) -> Result<Counts, Unlisted>
 }
 
 /// Adds edges to a list until one has no room.
-fn add_edges<P: Part>(part: &P, mark: &mut Mark, words: &mut [u32]) -> Result<(), Refusal>
+fn add_edges<P: Part>(
+    part: &P,
+    ids: EdgeIds<'_, P>,
+    mark: &mut Mark,
+    words: &mut [u32],
+) -> Result<(), Refusal>
+    requires all { ids_from (P.Part.meaning ids.part.now) ids.from ≡ ids_from (P.Part.meaning part.now) 0 }
     requires sized { 0 < (P.Part.meaning part.now).automaton.ceilings.edges }
     requires none { mark.old.count ≡ 0 }
     requires room { mark.old.end ≤ length words.old }
     ensures { AddedLeading (edges_here (P.Part.meaning part.now)) mark.old words.old result mark.new words.new }
 {
-    for id in edge_ids(part)? {
+    for id in ids {
         add_edge(part, id, mark, words)?;
     }
     Ok(())

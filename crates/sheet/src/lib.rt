@@ -7,6 +7,6 @@ mod reader;
 mod step;
 
 pub use chains::{Chain, Survey};
-pub use kinds::Kind;
+pub use kinds::{Kind, NoKind};
 pub use reader::{Reader, Record};
 pub use step::{Below, Step};

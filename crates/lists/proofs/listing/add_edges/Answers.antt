@@ -16,7 +16,7 @@ pub loop-id-init : goal.loop-id-init
 loop-id-init g c =
     let M : Meaning = g.P.Part.meaning c.args.part.now in
     let all : ids_of M - 0 ≡ ids_of M = omega arith in
-    let left = ap (λ x. ids_from (g.P.Part.meaning x.part.now) x.from) c.into_iter-id-iterator.ensures.into_iter_gives ∙ c.in_ok-id-items.ensures.ids in (
+    let left = ap (λ x. ids_from (g.P.Part.meaning x.part.now) x.from) c.into_iter-id-iterator.ensures.into_iter_gives ∙ c.requires.all in (
       tt,
       tt,
       rw (left, all) (record {
@@ -47,7 +47,7 @@ returns-in_err-add_edge g c =
     let M : Meaning = g.P.Part.meaning c.args.part.now in
     let s = first_stands M _ c.args.mark.now c.loop-id.mark c.loop-id.mark c.args.words.now c.loop-id.words c.loop-id.words
     c.loop-id.invariant.2 c.requires.room c.loop-id.auto.words c.in-Some.id _ c.in-Some.ensures.steps in
-    let p = err_from_is_err_and c.from_residual-in_err-add_edge.result c.from_residual-in_err-add_edge.ensures.1 in
+    let p = err_from_is_err_and c.from_residual.result c.from_residual.ensures.1 in
     rw (p.1, p.2)
     (no_room M _ c.args.mark.now c.loop-id.mark c.add_edge.new.mark c.args.words.now c.loop-id.words c.add_edge.new.words c.loop-id.invariant.2 c.requires.room c.loop-id.auto.words c.in-Some.id _ c.in-Some.ensures.steps s.0 s.1 _
     (c.in_err-add_edge.ensures s.0 (by_id M c.in-Some.id s.0 c.requires.sized s.1)))

@@ -53,12 +53,12 @@ no_header M ws none = lt-leb _ _ (omega arith)
 empty-counts : (M : Meaning) (ws : List ℕ) → length ws ≡ 0 → record { edges = 0; words = 0 } ≡ counted (length ws) (edges_here M)
 empty-counts M ws none = rw none refl
 
-pub returns-in_default : goal.returns-in_default
-returns-in_default g c =
+pub returns-in_default-begin : goal.returns-in_default-begin
+returns-in_default-begin g c =
     let M : Meaning = g.P.Part.meaning c.args.part.now in
     let ws : List ℕ = c.args.words.now in
-    let none : length ws ≡ 0 = c.in_default.ensures in
-    let sized : M.automaton.ceilings.edges ≡ 0 → ⊥ = λ h. c.if-ceilings-eq0.false (ap (λ x. x.edges) c.ceilings.ensures ∙ h) in
+    let none : length ws ≡ 0 = c.in_default-begin.ensures in
+    let sized : M.automaton.ceilings.edges ≡ 0 → ⊥ = λ h. omega (arith, c.in-Ok.ensures.told, h) in
     let is_list : ws ≡ listed (length ws) (edges_here M) = nil_from_length ws none ∙ (rw none refl) in
     record {
       answer = cut M ws ws _ sized (empty-counts M ws none) is_list (no_header M ws none);
@@ -66,17 +66,17 @@ returns-in_default g c =
       determined = λ told. listed_back M (g.met.P.Part.lawful c.args.part.now) told ws ws (buffer M ws ws _ sized (empty-counts M ws none) is_list);
     }
 
-pub returns-in-Ok : goal.returns-in-Ok
-returns-in-Ok g c =
+pub returns-in-Ok-whole : goal.returns-in-Ok-whole
+returns-in-Ok-whole g c =
     let M : Meaning = g.P.Part.meaning c.args.part.now in
     let ws : List ℕ = c.args.words.now in
-    let sized : M.automaton.ceilings.edges ≡ 0 → ⊥ = λ h. c.if-ceilings-eq0.false (ap (λ x. x.edges) c.ceilings.ensures ∙ h) in
+    let sized : M.automaton.ceilings.edges ≡ 0 → ⊥ = λ h. omega (arith, c.in-Ok.ensures.told, h) in
     let begun = c.in-Some.ensures in
     let e = list_ended (edges_here M) c.in-Some.mark c.add_edges-whole.new.mark ws c.add_edges-whole.new.words begun c.add_edges-whole.ensures.added c.add_edges-whole.auto.words in
     let counts = c.end-counts.ensures.counts ∙ e.1 in
     let list = c.end-counts.ensures.list ∙ e.0 in
     record {
-      answer = accepted M ws c.end-counts.new.words c.end-counts.result sized counts list (all_fit M _ _ ws _ begun _ c.in-Ok.ensures);
+      answer = accepted M ws c.end-counts.new.words c.end-counts.result sized counts list (all_fit M _ _ ws _ begun _ c.in-Ok-whole.ensures);
       listed = buffer M ws c.end-counts.new.words c.end-counts.result sized counts list;
       determined = λ told. listed_back M (g.met.P.Part.lawful c.args.part.now) told ws c.end-counts.new.words (buffer M ws c.end-counts.new.words c.end-counts.result sized counts list);
     }
@@ -85,7 +85,7 @@ pub returns-in-Err : goal.returns-in-Err
 returns-in-Err g c =
     let M : Meaning = g.P.Part.meaning c.args.part.now in
     let ws : List ℕ = c.args.words.now in
-    let sized : M.automaton.ceilings.edges ≡ 0 → ⊥ = λ h. c.if-ceilings-eq0.false (ap (λ x. x.edges) c.ceilings.ensures ∙ h) in
+    let sized : M.automaton.ceilings.edges ≡ 0 → ⊥ = λ h. omega (arith, c.in-Ok.ensures.told, h) in
     let begun = c.in-Some.ensures in
     let e = list_ended (edges_here M) c.in-Some.mark c.add_edges-whole.new.mark ws c.add_edges-whole.new.words begun c.add_edges-whole.ensures.added c.add_edges-whole.auto.words in
     let counts = c.end-counts.ensures.counts ∙ e.1 in
