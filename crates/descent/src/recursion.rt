@@ -64,6 +64,7 @@ fn mark_reached(reader: &Reader<'_>, process: u32, table: &mut [u32])
 {
     table.fill(0);
     mark(table, reader.body(process));
+    // Kept: no number is counted; it goes on until no mark is added.
     while spread(reader, table) {}
 }
 

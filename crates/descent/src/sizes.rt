@@ -35,6 +35,7 @@ pub(crate) fn settle(reader: &Reader<'_>, table: &mut [u32])
     ensures settled { Settled (down_from reader.now.words.now table.old) (in_reach reader.now.words.now table.old) table.new }
 {
     table.fill(0);
+    // Kept: no number is counted; it goes on until no word is given.
     while grow(reader, table) {}
 }
 

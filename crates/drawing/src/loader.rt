@@ -46,6 +46,7 @@ pub fn draw(words: Vec<u32>) -> Result<Drawing, Refused>
     ensures drawn { Drawn words.items result }
     ensures single { Single (verdict words.items) }
 {
+    // Kept: both cases take the words, so a closure for either would have to own them.
     match check(&Table::new(&words)) {
         Ok(()) => Ok(at_start(words)),
         Err(fault) => Err(Refused { fault, words }),

@@ -24,6 +24,7 @@ impl Kind for EdgeKind {
     fn behind(words: &[u32]) -> &[u32] {
         let (count, branches) = rows::branches(words);
         let mut rest = branches;
+        // Kept: no index is counted; as many branches are passed as the edge has.
         for _branch in 0..count {
             rest = BranchKind::behind(rest);
         }

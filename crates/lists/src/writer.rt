@@ -33,6 +33,7 @@ fn put_row<Q: Fn(usize) -> Result<u32, Refusal>>(
     ensures { (ws : List ℕ) → count ≡ length ws → ((i : ℕ) (r : Answer ℕ) → Q.post word i r → r ≡ found NoItem (slice_get ws i))
         → Wrote rec.old words.old ws rec.new words.new }
 {
+    // Kept: a part tells the words of a row by their numbers alone.
     for item in 0..count {
         rec.put(words, word(item).unwrap());
     }
@@ -66,6 +67,7 @@ impl<'p, P: Part> PartEdge<'p, P> {
             → Wrote rec.old words.old (pair_words b.assignments) rec.new words.new }
     {
         let count = self.part.assignment_count(self.id, branch).unwrap();
+        // Kept: a part tells assignments by their numbers alone.
         for item in 0..count {
             let pair = self.part.assignment(self.id, branch, item).unwrap();
             rec.put(words, pair.variable);
@@ -102,6 +104,7 @@ impl<'p, P: Part> PartEdge<'p, P> {
             → Wrote rec.old words.old (flat_map branch_words e.branches) rec.new words.new }
     {
         let count = self.part.branch_count(self.id).unwrap();
+        // Kept: a part tells branches by their numbers alone.
         for branch in 0..count {
             if rec.is_full() {
                 return;

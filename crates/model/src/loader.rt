@@ -27,6 +27,7 @@ pub fn load(words: Vec<u32>, mut table: Vec<u32>) -> Result<Model, Refused>
     ensures loading { Loading words.items (length table.items) result }
     ensures single { Single (verdict words.items (length table.items)) }
 {
+    // Kept: both cases take the words and the table, so a closure for either would have to own them.
     match judge(&words, &mut table) {
         Ok(()) => Ok(Model { words, table }),
         Err(fault) => {
