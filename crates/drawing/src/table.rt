@@ -50,6 +50,13 @@ impl<'a> Table<'a> {
         Table { words }
     }
 
+    /// The words.
+    pub(crate) fn words(&self) -> &'a [u32]
+        ensures { result.now ≡ self.now.words.now }
+    {
+        self.words
+    }
+
     /// How many words there are.
     pub(crate) fn length(&self) -> usize
         ensures { result ≡ length self.now.words.now }

@@ -11,41 +11,29 @@ const MOST_PROCESSES: u32 = 256;
 const MOST_RECORDS: u32 = 2048;
 
 /// What each word of the header must be.
-fn header_word(i: usize) -> HeaderWord
-    requires { i < 3 }
-    ensures { result ≡ record { kind = i + 1; least = least i; most = most i } }
-{
-    match i {
-        0 => HeaderWord {
-            kind: 1,
-            least: 1,
-            most: MOST_PROCESSES,
-        },
-        1 => HeaderWord {
-            kind: 2,
-            least: 1,
-            most: MOST_RECORDS,
-        },
-        _ => HeaderWord {
-            kind: 3,
-            least: 0,
-            most: 1,
-        },
-    }
-}
-
-fn header_right(reader: &Reader<'_>, i: usize) -> bool
-    requires { i < 3 }
-    ensures { result ≡ header_right reader.now.words.now i }
-{
-    i < reader.length() && header_word(i).admits(reader.word(i))
-}
+const HEADER: [HeaderWord; 3] = [
+    HeaderWord {
+        kind: 1,
+        least: 1,
+        most: MOST_PROCESSES,
+    },
+    HeaderWord {
+        kind: 2,
+        least: 1,
+        most: MOST_RECORDS,
+    },
+    HeaderWord {
+        kind: 3,
+        least: 0,
+        most: 1,
+    },
+];
 
 /// The lowest header word that is missing or wrong.
 pub(crate) fn check_header(reader: &Reader<'_>) -> Result<(), Fault>
     ensures { header_check reader.now.words.now result }
 {
-    expect_each(3, Refusal::Header, 0, |i| header_right(reader, i as usize))
+    words::check_header(reader.words(), &HEADER, Refusal::Header)
 }
 
 /// As many words as the header says.

@@ -1,5 +1,5 @@
 -- A head's number is that of its kind.
-use Rattle.std.proofs.Common.{◌≡◌, ◌≤◌, ℕ, Some, None, arith}
+use Rattle.std.proofs.Common.{◌≡◌, ℕ, Some, arith}
 use Rattle.std.proofs.lemmas.Bool.Decides.{nat_tests}
 use Rattle.sheet.specs.declared.kinds.Kind.{Kind}
 use Rattle.sheet.specs.declared.kinds.Kind.TheVariants.{Stop, Act, Branch, Assignment, Break, Throw, Alt, Seq, Loop, Try, Catch, When, Urgent, Call}
@@ -20,6 +20,3 @@ numbered k Catch h = grind (arith, nat_tests)
 numbered k When h = grind (arith, nat_tests)
 numbered k Urgent h = grind (arith, nat_tests)
 numbered k Call h = grind (arith, nat_tests)
-
-pub unnumbered : (k : ℕ) → kind_numbered k ≡ None → 14 ≤ k
-unnumbered k h = grind (arith, nat_tests)

@@ -29,6 +29,13 @@ impl<'a> Reader<'a> {
         Reader { words, at: 0 }
     }
 
+    /// The sheet's words.
+    pub fn words(&self) -> &'a [u32]
+        ensures { result.now ≡ self.now.words.now }
+    {
+        self.words
+    }
+
     /// How many words the sheet has.
     pub fn length(&self) -> usize
         ensures { result ≡ length self.now.words.now }

@@ -1,8 +1,8 @@
 -- What the tests of numbers one after the other say of the lowest that is wrong.
-use Rattle.std.proofs.Common.{◌≡◌, ℕ, ◌+◌, ◌<◌, Bool, true, false, Ok, Err, Result, ap, ◌∙◌, arith}
+use Rattle.std.proofs.Common.{◌≡◌, ℕ, ◌+◌, ◌<◌, Bool, true, false, Ok, Err, Result, sym, ap, ◌∙◌, arith}
 use Rattle.words.specs.declared.Fault.{Fault}
 use Rattle.words.specs.declared.Refusal.{Refusal}
-use Rattle.words.specs.Checks.{fault, Failed, Tested, lowest}
+use Rattle.words.specs.Checks.{fault, Failed, Tested, Lowest, lowest}
 
 -- the numbers that pass are those that are not wrong
 pub lowest_from_tested : (answers : ℕ → Bool → Type 0) (refusal : Refusal) (first count : ℕ) (r : Result (Unit {0}) Fault)
@@ -25,5 +25,22 @@ lowest_from_tested answers refusal first count (Err f) t place bound wrong at al
           before = λ k h w. right k (omega (arith, inside, h)) (failed.before k h) w;
         },
         t.one.1.1 ∙ ap (fault refusal) (at i),
+      ),
+    )
+
+-- the same numbers are wrong, so the lowest is the same
+pub lowest_alike : (refusal : Refusal) (place : ℕ → ℕ) (bound : ℕ) (p q : ℕ → Bool) → ((i : ℕ) → i < bound → p i ≡ q i)
+    → (r : Result (Unit {0}) Fault) → lowest refusal place bound (λ i. p i ≡ false) r → lowest refusal place bound (λ i. q i ≡ false) r
+lowest_alike refusal place bound p q same (Ok u) h = λ k inside w. h k inside (same k inside ∙ w)
+lowest_alike refusal place bound p q same (Err f) h =
+    let low : Lowest (λ i. p i ≡ false) bound h.0 = h.1.0 in (
+      h.0,
+      (
+        record {
+          inside = low.inside;
+          is = sym (same h.0 low.inside) ∙ low.is;
+          before = λ k below w. low.before k below (same k (omega (arith, low.inside, below)) ∙ w);
+        },
+        h.1.1,
       ),
     )

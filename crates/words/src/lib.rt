@@ -4,12 +4,14 @@
 ghost use Rattle.std.specs.Prelude.{◌≡◌, ℕ, ◌+◌, ◌*◌, ◌/◌, ◌%◌, ◌^◌, ◌<◌, ◌==◌, slice_index};
 ghost use Rattle.words.specs.Checks.{unless, Tested};
 ghost use Rattle.words.specs.Refusals.{number_of};
-ghost use Rattle.words.specs.Words.{kind_of, payload_of, observable, exception, header_admits};
+ghost use Rattle.words.specs.Words.{kind_of, payload_of, observable, exception};
 
 mod code_word;
+mod header;
 mod term;
 
 pub use code_word::{CodeWord, NoCodeWord};
+pub use header::{HeaderWord, check_header};
 pub use term::{NoTerm, Term};
 
 /// The word that stands where a reference is left out.
@@ -135,23 +137,6 @@ pub fn payload(word: u32) -> u32
     ensures { result ≡ payload_of word }
 {
     word % PAYLOADS
-}
-
-/// What a word of a header must be: its kind, and the least and the greatest number that it may give.
-#[derive(Clone, Copy, PartialEq, Eq, Debug)]
-pub struct HeaderWord {
-    pub kind: u32,
-    pub least: u32,
-    pub most: u32,
-}
-
-impl HeaderWord {
-    /// Whether a word is right as this word of the header.
-    pub fn admits(self, word: u32) -> bool
-        ensures { result ≡ header_admits self.kind self.least self.most word }
-    {
-        kind(word) == self.kind && self.least <= payload(word) && payload(word) <= self.most
-    }
 }
 
 // Kept: an action is one word of a sheet, a drawing and a list, and is compared and passed on as that word.
