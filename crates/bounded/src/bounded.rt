@@ -8,7 +8,7 @@ use std::alloc::AllocError;
 #[derive(Clone, Copy, PartialEq, Eq, Debug)]
 pub struct Full;
 
-// Kept: a buffer with a count, since these lists are copied and nothing is allocated for them; the kit's `ArrayVec` is no `Copy`.
+// Kept: a buffer with a count, since nothing is allocated where questions run, and paths and places are copied; the kit's `ArrayVec` is no `Copy`.
 
 /// At most N entries, in the order in which they were put.
 pub struct Bounded<T, const N: usize> {
@@ -18,7 +18,7 @@ pub struct Bounded<T, const N: usize> {
     ghost fits: { count ≤ N },
 }
 
-// Kept: written out, since a derive refuses a generic struct with ghost fields.
+// Kept: written out, since `Clone` cannot be derived for a generic struct with ghost fields.
 impl<T: Copy, const N: usize> Copy for Bounded<T, N> {}
 
 impl<T: Copy, const N: usize> Clone for Bounded<T, N> {
@@ -71,6 +71,7 @@ impl<T: Copy, const N: usize> Bounded<T, N> {
         ensures { take result.count result.entries ≡ drop passed (take self.now.count self.now.entries) }
     {
         let mut rest = Bounded::over(self.entries);
+        // Kept: a `for` over entries; the library has no call that puts them into a list of another kind.
         for entry in &self.as_slice()[passed.min(self.count)..] {
             rest.push(*entry);
         }

@@ -1,5 +1,4 @@
 // Which records are looked at.
-// Kept: a reader and a table are two parameters; in a struct with a `&mut` table each method would also promise that the reader stays.
 ghost use Rattle.std.specs.Prelude.{◌≡◌};
 ghost use Rattle.descent.specs.Records.{in_reach};
 

@@ -1,4 +1,7 @@
 // The recursion check: marks what a process's body reaches and looks for a call of that process.
+//
+// Kept: a reader and a table are two parameters; in a struct with a `&mut` table each method would also promise that the
+// reader stays.
 ghost use Rattle.std.specs.Prelude.{◌≡◌, ℕ, ◌<◌, false, Some, Decides};
 ghost use Rattle.sheet.specs.Layout.{body};
 ghost use Rattle.descent.specs.Descents.{DescendsToItself};

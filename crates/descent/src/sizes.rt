@@ -1,4 +1,7 @@
 // The work table: each behaviour's depth and span, and the check of their limits.
+//
+// Kept: a reader and a table are two parameters; in a struct with a `&mut` table each method would also promise that the
+// reader stays.
 ghost use Rattle.std.specs.Prelude.{◌<◌, Decides};
 ghost use Rattle.words.specs.Checks.{Clear};
 ghost use Rattle.descent.specs.Descents.{Behaviour};

@@ -6,7 +6,7 @@ ghost use Rattle.drawing.specs.Checks.{is_drawn, is_place_word};
 use crate::table::Table;
 use words::CodeWord;
 
-// Kept: a constant, which no conversion can make.
+// Kept: a number, since the codes of all drawn places are counted from it.
 
 /// The code of the first drawn place; those of the others follow.
 pub(crate) const START: u32 = 0x9000_0000;

@@ -13,6 +13,7 @@ pub(crate) const HEADER: usize = 3;
 pub(crate) const ROW: usize = 5;
 
 /// A row: an edge from a place, with one outcome. A row that is not there reads as all 0.
+// Kept: no Option, since the definitions that are promised read a missing row so.
 #[derive(Clone, Copy, Default)]
 pub(crate) struct Row {
     pub from: u32,

@@ -36,7 +36,7 @@ pub(crate) enum Field {
 }
 
 /// What the words of a kind of record may hold.
-// Kept: four named fields, as the format has them, and not an array, whose places would be numbers.
+// Kept: four named fields, not an array, since the definitions that are promised speak of them by name.
 #[derive(Clone, Copy)]
 pub(crate) struct Layout {
     pub payload: Field,

@@ -52,7 +52,7 @@ pub(crate) fn check_table(reader: &Reader<'_>, room: usize) -> Result<(), Fault>
     expect(room == wanted, Refusal::Table, wanted)
 }
 
-// Kept: the kind of a process word is compared here alone.
+// Kept: not by a `HeaderWord`, whose greatest number would be one below the records that there are.
 fn process_right(reader: &Reader<'_>, process: u32) -> bool
     ensures { result ≡ process_right reader.now.words.now process }
 {

@@ -4,7 +4,7 @@ ghost use Rattle.form.specs.Fields.{refers, admits, word_right, record_check};
 
 use crate::field::{Field, Target, layout_of, value_of};
 use sheet::Reader;
-use words::{Fault, NONE, Refusal, expect_each, is_exception, is_number, is_observable};
+use words::{Fault, NONE, Refusal, TAU, expect_each, is_exception, is_number, is_observable};
 
 const MOST_WEIGHT: u32 = 65_535;
 
@@ -25,7 +25,7 @@ fn admits(reader: &Reader<'_>, number: u32, field: Field, value: u32) -> bool
         Field::Number => is_number(value),
         Field::Weight => 1 <= value && value <= MOST_WEIGHT,
         Field::Process => value < reader.processes(),
-        Field::Action => value == 0 || is_observable(value),
+        Field::Action => value == TAU || is_observable(value),
         Field::Exception => is_exception(value),
         Field::To(target) => refers(reader, number, target, value),
         Field::Maybe(target) => value == NONE || refers(reader, number, target, value),

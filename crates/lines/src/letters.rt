@@ -17,6 +17,7 @@ pub(crate) enum Action {
     Error,
 }
 
+// Kept: numbers of kinds, since a line spells every word, also one that is no action.
 impl From<u32> for Action {
     ghost from_gives = { λ word action. action ≡ action_of word };
 
@@ -33,6 +34,7 @@ impl From<u32> for Action {
 }
 
 /// A word of a deadline; whatever is none counts as an "or".
+// Kept: numbers of kinds, and not `Term::try_from`, since a line spells every word.
 pub(crate) fn term(word: u32) -> Term
     ensures { result ≡ term_of word }
 {
@@ -45,6 +47,7 @@ pub(crate) fn term(word: u32) -> Term
 }
 
 /// A word of a place's code; whatever is none counts as a pair.
+// Kept: numbers of kinds, and not `CodeWord::try_from`, since a line spells every word.
 pub(crate) fn code_word(word: u32) -> CodeWord
     ensures { result ≡ code_word_of word }
 {

@@ -6,7 +6,7 @@ ghost use Rattle.lists.specs.Format.{clashes_with, clashing, pair_words};
 pub(crate) fn clash(pairs: &[u32]) -> bool
     ensures { (ps : List (ℕ × ℕ)) → pairs.now ≡ pair_words ps → result ≡ clashing ps }
 {
-    // Kept: no index is counted, and the pairs behind this one are at hand.
+    // Kept: no plainer as arrays of two, since the words behind a pair are what is searched next.
     let mut left = pairs;
     while let [variable, expression, rest @ ..] = left {
         if differs(*variable, *expression, rest) {
@@ -21,7 +21,7 @@ pub(crate) fn clash(pairs: &[u32]) -> bool
 fn differs(variable: u32, expression: u32, pairs: &[u32]) -> bool
     ensures { (ps : List (ℕ × ℕ)) → pairs.now ≡ pair_words ps → result ≡ clashes_with (variable, expression) ps }
 {
-    // Kept: no index is counted; two words are taken at a time.
+    // Kept: no plainer as arrays of two: the pattern names both words, and no index is counted.
     let mut left = pairs;
     while let [other, another, rest @ ..] = left {
         if *other == variable && *another != expression {

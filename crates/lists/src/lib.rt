@@ -19,7 +19,7 @@ pub use record::Open;
 /// The end of a list that is being written, and the number of its edges.
 ///
 /// The list's words are lent beside it to each call that reads or writes them.
-// Kept: the words stay beside it, since the public calls take them so, and a mark that held them would lend them out anew in each.
+// Kept: the words stay beside it: `Open::put`, which is public, takes them so, and hands them back to its caller after each word.
 #[derive(Drop)]
 pub struct Mark {
     end: usize,

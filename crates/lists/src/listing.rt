@@ -49,7 +49,7 @@ pub fn list<P: Part>(part: &P, words: &mut [u32]) -> Result<Counts, Unlisted>
     };
     let whole = add_edges(part, ids, &mut mark, words);
     let counts = mark.end(words);
-    // Kept: both cases tell the counts.
+    // Kept: no plainer by `map` and `map_err`, which would take a closure for each case.
     match whole {
         Ok(()) => Ok(counts),
         Err(_) => Err(Unlisted::TooLong(counts)),

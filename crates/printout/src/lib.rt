@@ -53,7 +53,7 @@ fn put_line(text: &mut Vec<u8>, line: &[u8]) -> Result<(), AllocError>
 }
 
 /// A kind of items of a list that have lines in its printout.
-// Kept: the text and the buffer for lines go beside each other, since lending two `&mut` fields of one struct at once has no proof rule.
+// Kept: text and buffer go beside each other: of a struct that held both, the check proved no call that was lent the two at once.
 trait Printed: Kind {
     // What stands in the printout for an item, by its number and its words, and whether its lines fit a buffer.
     ghost lines: { ℕ → Row ℕ → Row ℕ };

@@ -28,7 +28,7 @@ fn start_text(heap: Global, model: Model) -> Result<Vec<u8>, AllocError>
 pub fn expansion(heap: Global, bytes: &[u8]) -> Result<Vec<u8>, AllocError>
     ensures { IfOk result (λ v. Expanded bytes.now v.items) }
 {
-    // Kept: both cases make a text.
+    // Kept: no plainer by `map_or_else`, which would take a closure for each case.
     match open_sheet(heap, bytes) {
         Ok(model) => start_text(heap, model),
         Err(why) => explain(heap, why),

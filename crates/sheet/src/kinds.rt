@@ -30,6 +30,7 @@ pub enum Kind {
 pub struct NoKind;
 
 /// The kind that a head has.
+// Kept: the one place where heads' numbers become kinds.
 impl TryFrom<u32> for Kind {
     type Error = NoKind;
 

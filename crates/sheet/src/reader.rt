@@ -33,7 +33,8 @@ impl<'a> Reader<'a> {
     pub fn words(&self) -> &'a [u32]
         ensures { result.now ≡ self.now.words.now }
     {
-        self.words
+        let Reader { words, .. } = *self;
+        words
     }
 
     /// How many words the sheet has.

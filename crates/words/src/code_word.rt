@@ -23,6 +23,7 @@ pub enum CodeWord {
 #[derive(Clone, Copy, PartialEq, Eq, Debug)]
 pub struct NoCodeWord;
 
+// Kept: the one place where numbers of kinds become words of a code.
 impl TryFrom<u32> for CodeWord {
     type Error = NoCodeWord;
 

@@ -112,6 +112,7 @@ pub fn expect_each<T: Fn(u32) -> bool>(
     requires callable { (i : ℕ) → i < count → T.pre passes i }
     ensures { Tested (T.post passes) refusal first count result }
 {
+    // Kept: the test is asked by number, and stops at the first that fails.
     for i in 0..count {
         expect(passes(i), refusal, first + i as usize)?;
     }
@@ -168,6 +169,7 @@ pub fn is_exception(action: u32) -> bool
 }
 
 /// Whether a word is an action that can be seen from outside: patient or impatient.
+// Kept: the one place where the two kinds are told by number.
 pub fn is_observable(action: u32) -> bool
     ensures { result ≡ observable action }
 {

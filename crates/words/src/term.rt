@@ -17,6 +17,7 @@ pub enum Term {
 #[derive(Clone, Copy, PartialEq, Eq, Debug)]
 pub struct NoTerm;
 
+// Kept: the one place where numbers of kinds become words of a deadline.
 impl TryFrom<u32> for Term {
     type Error = NoTerm;
 
