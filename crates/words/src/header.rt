@@ -31,8 +31,8 @@ pub fn check_header<const N: usize>(
 ) -> Result<(), Fault>
     ensures { lowest refusal (λ i. i) N (λ i. header_right header.now words.now i ≡ false) result }
 {
-    for place in 0..N {
-        let right = place < words.len() && header[place].admits(words[place]);
+    for (place, wanted) in header.iter().enumerate() {
+        let right = words.get(place).is_some_and(|word| wanted.admits(*word));
         expect(right, refusal, place)?;
     }
     Ok(())
