@@ -29,6 +29,7 @@ pub(crate) struct Landing {
 }
 
 /// What a record does as a frame.
+// Kept: `Unframed` is one of four cases; an Option around the others would be matched twice.
 #[derive(Clone, Copy)]
 enum Role {
     /// What is done goes on with another record.

@@ -17,6 +17,7 @@ pub(crate) enum Target {
 }
 
 /// What one word of a record may hold.
+// Kept: `Never` is one of nine cases, and the other words of such a record are judged too.
 #[derive(Clone, Copy)]
 pub(crate) enum Field {
     /// Nothing: the record has a kind that no record has.

@@ -52,6 +52,7 @@ impl Counts {
 fn zero_from(words: &mut [u32], from: usize)
     ensures { words.new ≡ zeroed_from from words.old }
 {
+    // Kept: by `get_mut` nothing would be known of the words afterwards.
     if from < words.len() {
         words[from..].fill(0);
     }

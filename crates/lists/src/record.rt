@@ -41,6 +41,7 @@ impl Open<'_> {
         ensures { Put self.old words.old word self.new words.new }
     {
         let end = self.mark.end;
+        // Kept: by `get_mut` nothing would be known of the words afterwards.
         if end < words.len() {
             words[end] = word;
             self.mark.end = end + 1;

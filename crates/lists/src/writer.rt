@@ -44,6 +44,7 @@ fn mark_clash(words: &mut [u32], place: usize, count: usize)
     requires { count < payloads }
     ensures { Marked words.old place count words.new }
 {
+    // Kept: the count stands before the slice that is looked at, and is written where it clashes.
     if place < words.len()
         && 2 * count < words.len() - place
         && clash(&words[place + 1..place + 1 + 2 * count])

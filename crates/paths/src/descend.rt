@@ -22,6 +22,7 @@ fn slots(model: &Model, number: u32) -> usize
 }
 
 /// How a record's slots come from those of the records below it.
+// Kept: `Nothing` is one of seven cases; an Option around the others would be matched twice.
 #[derive(Clone, Copy)]
 enum Shape {
     /// Its one slot is vacant.

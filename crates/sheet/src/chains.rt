@@ -70,6 +70,7 @@ impl<'a> Reader<'a> {
     }
 
     /// The chain that begins at a record, or at none, in one view.
+    // Kept: one walk tells all three, where chains of iterators would take three.
     pub fn survey(&self, first: u32, key: u32) -> Survey
         ensures { result ≡ survey_of self.now.words.now key (chain self.now.words.now first) }
     {

@@ -18,6 +18,7 @@ pub struct Record {
 #[derive(Clone, Copy)]
 pub struct Reader<'a> {
     words: &'a [u32],
+    // Kept: where a reader stands is promised by `new`.
     at: usize,
 }
 

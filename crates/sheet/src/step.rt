@@ -7,6 +7,7 @@ use crate::reader::{Reader, Record};
 use words::payload;
 
 /// A behaviour by its kind; references name records.
+// Kept: `Link` is one of twelve cases; an Option around the others would be matched twice.
 #[derive(Clone, Copy, PartialEq, Eq, Debug)]
 pub enum Step {
     Stop,
