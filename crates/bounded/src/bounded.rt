@@ -1,5 +1,5 @@
 // A list of at most N entries.
-ghost use Rattle.std.specs.Prelude.{◌≡◌, ◌+◌, ◌<◌, ◌≤◌, [], ◌∷◌, ◌++◌, length, take, drop};
+ghost use Rattle.std.specs.Prelude.{◌≡◌, ◌+◌, ◌<◌, ◌≤◌, [], ◌∷◌, ◌++◌, length, take, drop, ⊤};
 ghost use Rattle.bounded.specs.Lists.{pushing, pushed};
 
 use std::alloc::AllocError;
@@ -22,6 +22,10 @@ pub struct Bounded<T, const N: usize> {
 impl<T: Copy, const N: usize> Copy for Bounded<T, N> {}
 
 impl<T: Copy, const N: usize> Clone for Bounded<T, N> {
+    ghost is_clone = { λ list copy. copy ≡ list };
+
+    ghost is_infallible = { λ _. ⊤ };
+
     fn clone(&self) -> Result<Bounded<T, N>, AllocError> {
         Ok(*self)
     }
