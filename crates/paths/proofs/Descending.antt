@@ -7,6 +7,7 @@ use Rattle.rules.specs.Descents.{Path as Way, arriving, within, under_when, unde
 use Rattle.rules.specs.Places.{behaviour}
 use Rattle.rules.specs.Terms.{Term, below}
 use Rattle.paths.specs.Paths.{words_of, path_of, found, Descended, shape_of}
+use Rattle.paths.specs.Layers.{Roomy}
 use Rattle.paths.specs.Sheets.{term_at, depth_at, span_at}
 use Rattle.paths.specs.declared.descend.Shape.{Shape}
 use Rattle.paths.specs.declared.descend.Shape.TheVariants.{Nothing, Own, Both, Framed, When, Urgent, Inner}
@@ -74,18 +75,13 @@ module _ (ws t : List ℕ) (l : Loaded ws t) where
       ∙ (ap (λ y. descend_by (span_at t) r y (descend (term_at ws) (span_at t) k) i) e
       ∙ sym (descends_is (span_at t) r (term_at ws r) (descend (term_at ws) (span_at t) k) i))
 
-  -- room for one word more in each stack
-  pub record Roomy (p : Path) : Type 0 where
-    pub frames : p.frames.count < 128
-    pub whens : p.whens.count < 128
-    pub urgents : p.urgents.count < 128
-
-  pub roomy : (a i : ℕ) (p : Path) → Descended ws t a i (Some p) → Roomy p
-  roomy a i p h =
+  pub roomy : (a i : ℕ) (o : Option Path) → Descended ws t a i o → Roomy o
+  roomy a i None h = tt
+  roomy a i (Some p) h =
       let g : Within ws (depth_at t a) (path_of p) = (paths_good ws t l (suc (depth_at t a)) a i (path_of p) (sym (h (suc (depth_at t a)) (omega arith)))).1 in
       let d = shallow ws t l a in
       let f = counts p.frames in
       let w = counts p.whens in
       let u = counts p.urgents in
       let v = length-reverse (words_of p.whens) in
-      record { frames = omega arith; whens = omega arith; urgents = omega arith }
+      (omega arith, omega arith, omega arith)

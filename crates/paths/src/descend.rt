@@ -8,7 +8,7 @@ ghost use Rattle.paths.specs.Places.{place_of};
 ghost use Rattle.paths.specs.Sheets.{term_of, term_at, span_at};
 
 use crate::code::Code;
-use crate::path::{Head, Path, arriving};
+use crate::path::{Head, Layer, Path, arriving, under};
 use descent::span;
 use model::Model;
 use sheet::{Reader, Step};
@@ -79,21 +79,9 @@ fn descend(model: &Model, number: u32, id: usize) -> Option<Path>
                 descend(model, second, id - split)
             }
         }
-        Shape::Framed(body) => {
-            let mut path = descend(model, body, id)?;
-            path.frames.push(number);
-            Some(path)
-        }
-        Shape::When(condition, body) => {
-            let mut path = descend(model, body, id)?;
-            path.whens.push(condition);
-            Some(path)
-        }
-        Shape::Urgent(condition, body) => {
-            let mut path = descend(model, body, id)?;
-            path.urgents.push(condition);
-            Some(path)
-        }
+        Shape::Framed(body) => under(Layer::Frame(number), descend(model, body, id)),
+        Shape::When(condition, body) => under(Layer::When(condition), descend(model, body, id)),
+        Shape::Urgent(condition, body) => under(Layer::Urgent(condition), descend(model, body, id)),
         Shape::Inner(body) => descend(model, body, id),
     }
 }
@@ -120,15 +108,14 @@ fn from_head(model: &Model, word: u32, id: usize) -> Option<Path>
     }
 }
 
-/// The same path with more frames around it, which words of a place's code name.
-fn under_frames(mut path: Path, words: &[u32]) -> Path
-    requires { path.frames.count + length words.now ≤ 128 }
-    ensures { path_of result ≡ within (map payload_of words.now) (path_of path) }
+/// Puts more frames around a path, which words of a place's code name.
+fn under_frames(path: &mut Path, words: &[u32])
+    requires { path.old.frames.count + length words.now ≤ 128 }
+    ensures { path_of path.new ≡ within (map payload_of words.now) (path_of path.old) }
 {
     for word in words {
         path.frames.push(payload(*word));
     }
-    path
 }
 
 /// The path from a place, given by its code, to one of its slots; none where the slot is vacant.
@@ -138,6 +125,9 @@ pub fn path_to(model: &Model, code: &Code, id: usize) -> Option<Path>
     let [first, frames @ ..] = code.words() else {
         return None;
     };
-    let path = from_head(model, *first, id)?;
-    Some(under_frames(path, frames))
+    let mut path = from_head(model, *first, id);
+    if let Some(inner) = &mut path {
+        under_frames(inner, frames);
+    }
+    path
 }

@@ -1,7 +1,9 @@
 // What a descent finds on its way to an edge.
 ghost use Rattle.std.specs.Prelude.{◌≡◌};
+ghost use Rattle.std.specs.Option.{option_map};
 ghost use Rattle.rules.specs.Descents.{arriving};
 ghost use Rattle.paths.specs.Paths.{head_of, found};
+ghost use Rattle.paths.specs.Layers.{Roomy, below_layer};
 
 use crate::stack::Stack;
 
@@ -37,4 +39,30 @@ pub(crate) fn arriving(leaf: Head, id: usize) -> Option<Path>
         whens: Stack::new(),
         urgents: Stack::new(),
     })
+}
+
+/// What a record adds to the paths of its body.
+#[derive(Clone, Copy)]
+pub(crate) enum Layer {
+    Frame(u32),
+    /// The condition of a when.
+    When(u32),
+    /// The condition of an urgent.
+    Urgent(u32),
+}
+
+/// The path that was found, if any, with what a record above it adds.
+// Kept: no `?` on a path, which is large: it would be copied once more for each.
+pub(crate) fn under(layer: Layer, mut lower: Option<Path>) -> Option<Path>
+    requires { Roomy lower }
+    ensures { found result ≡ option_map (below_layer layer) (found lower) }
+{
+    if let Some(path) = &mut lower {
+        match layer {
+            Layer::Frame(number) => path.frames.push(number),
+            Layer::When(condition) => path.whens.push(condition),
+            Layer::Urgent(condition) => path.urgents.push(condition),
+        }
+    }
+    lower
 }

@@ -1,12 +1,10 @@
-use Rattle.std.proofs.Common.{◌-◌, [], ◌∷◌, Some, None, vec_items, lit<, refl, ap, ◌∙◌, arith}
+use Rattle.std.proofs.Common.{◌-◌, [], ◌∷◌, None, vec_items, refl, ap, ◌∙◌, arith}
 use Rattle.std.specs.Option.{option_map}
 use Rattle.std.proofs.lemmas.Bool.{cond_below, cond_above}
 use Rattle.rules.specs.Descents.{within, under_when, under_urgent, descend}
 use Rattle.paths.specs.Sheets.{term_at, span_at}
-use Rattle.paths.specs.Paths.{found}
 use Rattle.paths.proofs.Loading.{loaded}
 use Rattle.paths.proofs.Descending.{shape_falls, descended, roomy}
-use Rattle.paths.proofs.Pushed.{frames_pushed, when_pushed, urgent_pushed}
 use Rattle.paths.proofs.descend.+descend.Goals as goal
 
 pub descend-requires : goal.descend-requires
@@ -65,53 +63,29 @@ returns-in-Inner t c =
     descended _ _ (loaded c.args.model.now) c.args.number c.args.id _ _ c.in-Inner.ensures
     (λ k h. c.descend-in-Inner.ensures k (omega (arith, f.0)))
 
-pub push-requires : goal.push-requires
-push-requires t c = (lit< tt, (roomy _ _ (loaded c.args.model.now) _ _ c.in_ok-path-in-Framed.path c.in_ok-path-in-Framed.ensures).frames)
+pub under-requires : goal.under-requires
+under-requires t c = roomy _ _ (loaded c.args.model.now) _ _ _ c.descend-in-Framed.ensures
 
-pub returns-in_err-path-in-Framed : goal.returns-in_err-path-in-Framed
-returns-in_err-path-in-Framed t c =
+pub returns-in-Framed : goal.returns-in-Framed
+returns-in-Framed t c =
     let f = shape_falls _ _ (loaded c.args.model.now) c.args.number _ c.in-Framed.ensures in
     descended _ _ (loaded c.args.model.now) c.args.number c.args.id _ _ c.in-Framed.ensures
-    (λ k h. ap found c.from_residual.ensures ∙ ap (option_map (within (c.args.number ∷ []))) (c.in_err-path-in-Framed.ensures k (omega (arith, f.0))))
+    (λ k h. c.under.ensures ∙ ap (option_map (within (c.args.number ∷ []))) (c.descend-in-Framed.ensures k (omega (arith, f.0))))
 
-pub returns-in_ok-path-in-Framed : goal.returns-in_ok-path-in-Framed
-returns-in_ok-path-in-Framed t c =
-    let p = c.in_ok-path-in-Framed.path in
-    let f = shape_falls _ _ (loaded c.args.model.now) c.args.number _ c.in-Framed.ensures in
-    descended _ _ (loaded c.args.model.now) c.args.number c.args.id _ (Some (record { leaf = p.leaf; frames = c.push.new.self; whens = p.whens; urgents = p.urgents })) c.in-Framed.ensures
-    (λ k h. ap Some (frames_pushed p c.push.new.self (c.args.number ∷ []) c.push.ensures.entries)
-    ∙ ap (option_map (within (c.args.number ∷ []))) (c.in_ok-path-in-Framed.ensures k (omega (arith, f.0))))
+pub under-requires-in-When : goal.under-requires-in-When
+under-requires-in-When t c = roomy _ _ (loaded c.args.model.now) _ _ _ c.descend-in-When.ensures
 
-pub push-requires-in-When : goal.push-requires-in-When
-push-requires-in-When t c = (lit< tt, (roomy _ _ (loaded c.args.model.now) _ _ c.in_ok-path-in-When.path c.in_ok-path-in-When.ensures).whens)
-
-pub returns-in_err-path-in-When : goal.returns-in_err-path-in-When
-returns-in_err-path-in-When t c =
+pub returns-in-When : goal.returns-in-When
+returns-in-When t c =
     let f = shape_falls _ _ (loaded c.args.model.now) c.args.number _ c.in-When.ensures in
     descended _ _ (loaded c.args.model.now) c.args.number c.args.id _ _ c.in-When.ensures
-    (λ k h. ap found c.from_residual-in_err-path-in-When.ensures ∙ ap (option_map (under_when c.in-When.condition)) (c.in_err-path-in-When.ensures k (omega (arith, f.0))))
+    (λ k h. c.under-in-When.ensures ∙ ap (option_map (under_when c.in-When.condition)) (c.descend-in-When.ensures k (omega (arith, f.0))))
 
-pub returns-in_ok-path-in-When : goal.returns-in_ok-path-in-When
-returns-in_ok-path-in-When t c =
-    let p = c.in_ok-path-in-When.path in
-    let f = shape_falls _ _ (loaded c.args.model.now) c.args.number _ c.in-When.ensures in
-    descended _ _ (loaded c.args.model.now) c.args.number c.args.id _ (Some (record { leaf = p.leaf; frames = p.frames; whens = c.push-in-When.new.self; urgents = p.urgents })) c.in-When.ensures
-    (λ k h. ap Some (when_pushed p c.push-in-When.new.self c.in-When.condition c.push-in-When.ensures.entries)
-    ∙ ap (option_map (under_when c.in-When.condition)) (c.in_ok-path-in-When.ensures k (omega (arith, f.0))))
+pub under-requires-in-Urgent : goal.under-requires-in-Urgent
+under-requires-in-Urgent t c = roomy _ _ (loaded c.args.model.now) _ _ _ c.descend-in-Urgent.ensures
 
-pub push-requires-in-Urgent : goal.push-requires-in-Urgent
-push-requires-in-Urgent t c = (lit< tt, (roomy _ _ (loaded c.args.model.now) _ _ c.in_ok-path-in-Urgent.path c.in_ok-path-in-Urgent.ensures).urgents)
-
-pub returns-in_err-path-in-Urgent : goal.returns-in_err-path-in-Urgent
-returns-in_err-path-in-Urgent t c =
+pub returns-in-Urgent : goal.returns-in-Urgent
+returns-in-Urgent t c =
     let f = shape_falls _ _ (loaded c.args.model.now) c.args.number _ c.in-Urgent.ensures in
     descended _ _ (loaded c.args.model.now) c.args.number c.args.id _ _ c.in-Urgent.ensures
-    (λ k h. ap found c.from_residual-in_err-path-in-Urgent.ensures ∙ ap (option_map (under_urgent c.in-Urgent.condition)) (c.in_err-path-in-Urgent.ensures k (omega (arith, f.0))))
-
-pub returns-in_ok-path-in-Urgent : goal.returns-in_ok-path-in-Urgent
-returns-in_ok-path-in-Urgent t c =
-    let p = c.in_ok-path-in-Urgent.path in
-    let f = shape_falls _ _ (loaded c.args.model.now) c.args.number _ c.in-Urgent.ensures in
-    descended _ _ (loaded c.args.model.now) c.args.number c.args.id _ (Some (record { leaf = p.leaf; frames = p.frames; whens = p.whens; urgents = c.push-in-Urgent.new.self })) c.in-Urgent.ensures
-    (λ k h. ap Some (urgent_pushed p c.push-in-Urgent.new.self c.in-Urgent.condition c.push-in-Urgent.ensures.entries)
-    ∙ ap (option_map (under_urgent c.in-Urgent.condition)) (c.in_ok-path-in-Urgent.ensures k (omega (arith, f.0))))
+    (λ k h. c.under-in-Urgent.ensures ∙ ap (option_map (under_urgent c.in-Urgent.condition)) (c.descend-in-Urgent.ensures k (omega (arith, f.0))))

@@ -1,0 +1,16 @@
+-- What a record adds to the path of a slot below it.
+use Rattle.std.specs.Prelude.{◌<◌, [], ◌∷◌, Some, None, Option}
+use Rattle.rules.specs.Descents.{Path as Way, within, under_when, under_urgent}
+use Rattle.paths.specs.declared.path.Layer.{Layer}
+use Rattle.paths.specs.declared.path.Layer.TheVariants.{Frame, When, Urgent}
+use Rattle.paths.specs.declared.path.Path.{Path}
+
+abbrev pub below_layer : Layer → Way → Way
+below_layer (Frame r) p = within (r ∷ []) p
+below_layer (When c) p = under_when c p
+below_layer (Urgent c) p = under_urgent c p
+
+-- room for one word more in each stack
+abbrev pub Roomy : Option Path → Type 0
+Roomy None = Unit {0}
+Roomy (Some p) = (p.frames.count < 128) × (p.whens.count < 128) × (p.urgents.count < 128)
