@@ -1,6 +1,8 @@
 // Items of one kind that stand one behind the other among the words of a list.
 ghost use Rattle.std.specs.Prelude.{◌≡◌, ◌<◌};
 ghost use Rattle.std.specs.Iterator.{YieldsFirstBy, item_count};
+ghost use Rattle.std.specs.List.{slice_get};
+ghost use Rattle.std.specs.Option.{option_map};
 ghost use Rattle.lists.specs.Format.{payloads};
 ghost use Rattle.listed.specs.Standing.{standing};
 
@@ -28,6 +30,23 @@ impl<'a, K> Items<'a, K> {
             words,
             kind: PhantomData,
         }
+    }
+}
+
+impl<'a, K: Kind> Items<'a, K> {
+    /// The item that has a number, if there are so many; what comes behind it is not looked at.
+    pub(crate) fn item(self, number: usize) -> Option<Listed<'a, K>>
+        ensures { option_map (λ x. (x.later, x.words.now)) result ≡ slice_get (standing K.after self.entry.left self.entry.words.now) number }
+    {
+        if self.left <= number {
+            return None;
+        }
+        let mut words = self.words;
+        // Kept: `nth` would look at what comes behind the item too, and at all items where there are not so many.
+        for _passed in 0..number {
+            words = K::behind(words);
+        }
+        Some(Listed::new(self.left - number - 1, words))
     }
 }
 

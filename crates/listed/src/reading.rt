@@ -65,7 +65,7 @@ pub fn edges<'a>(list: List<'a>) -> Items<'a, EdgeKind>
 pub fn edge<'a>(list: List<'a>, number: usize) -> Result<ListedEdge<'a>, Refusal>
     ensures { MatchResult result (λ x. edges_on x ≡ drop number (edges_in list.entry.words.now)) (Missing NoEdge (edges_in list.entry.words.now) number) }
 {
-    edges(list).nth(number).ok_or(Refusal::NoEdge)
+    edges(list).item(number).ok_or(Refusal::NoEdge)
 }
 
 impl<'a> Listed<'a, EdgeKind> {
@@ -81,7 +81,7 @@ impl<'a> Listed<'a, EdgeKind> {
     pub fn branch(self, number: usize) -> Result<ListedBranch<'a>, Refusal>
         ensures { MatchResult result (λ x. branches_on x ≡ drop number (edge_at self.entry).branches) (Missing NoBranch (edge_at self.entry).branches number) }
     {
-        self.branches().nth(number).ok_or(Refusal::NoBranch)
+        self.branches().item(number).ok_or(Refusal::NoBranch)
     }
 
     /// Its action.

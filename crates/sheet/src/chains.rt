@@ -88,6 +88,10 @@ impl<'a> Reader<'a> {
     pub fn link(&self, first: u32, i: usize) -> Option<u32>
         ensures { result ≡ slice_get (chain self.now.words.now first) i }
     {
+        // what lies past all records is told without going through the chain
+        if i >= self.records() as usize {
+            return None;
+        }
         self.chain(first).nth(i)
     }
 }

@@ -1,5 +1,4 @@
 use Rattle.std.proofs.Common.{refl}
-use Rattle.std.proofs.lemmas.Iterator.Consumers.{YieldsList-from_first, nth_from_yields_List}
 use Rattle.words.specs.declared.Refusal.TheVariants.{NoEdge}
 use Rattle.lists.specs.Reading.{edge_in, edges_from, behind_edge}
 use Rattle.listed.proofs.Standing.{found_or_missing}
@@ -7,6 +6,5 @@ use Rattle.listed.proofs.reading.edge.Goals as goal
 
 pub returns : goal.returns
 returns c =
-    let found = found_or_missing edges_from edge_in behind_edge (λ _. refl) (λ _ _. refl) (λ x. (x.later, x.words.now)) c.edges.result.left c.args.number c.edges.result.words.now NoEdge c.ok_or.result c.nth.result c.ok_or.ensures.value
-    (nth_from_yields_List c.nth.result c.nth.new.self c.args.number c.nth.ensures.ran (YieldsList-from_first (λ x. (x.later, x.words.now)) _ _ refl)) in
+    let found = found_or_missing edges_from edge_in behind_edge (λ _. refl) (λ _ _. refl) (λ x. (x.later, x.words.now)) c.edges.result.left c.args.number c.edges.result.words.now NoEdge c.ok_or.result c.item.result c.ok_or.ensures.value c.item.ensures in
     rw c.edges.ensures at found
