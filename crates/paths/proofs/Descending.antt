@@ -7,7 +7,7 @@ use Rattle.rules.specs.Descents.{Path as Way, arriving, within, under_when, unde
 use Rattle.rules.specs.Places.{behaviour}
 use Rattle.rules.specs.Terms.{Term, below}
 use Rattle.paths.specs.Paths.{words_of, path_of, found, Descended, shape_of}
-use Rattle.paths.specs.Layers.{Roomy}
+use Rattle.paths.specs.Additions.{Roomy}
 use Rattle.paths.specs.Sheets.{term_at, depth_at, span_at}
 use Rattle.paths.specs.declared.descend.Shape.{Shape}
 use Rattle.paths.specs.declared.descend.Shape.TheVariants.{Nothing, Own, Both, Framed, When, Urgent, Inner}

@@ -4,5 +4,4 @@ pub mod Headers
 pub mod Loading
 pub mod Measures
 pub mod PathsRight
-pub mod Pushed
 pub mod RecordsRight

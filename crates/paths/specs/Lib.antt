@@ -1,5 +1,5 @@
+pub mod Additions
 pub mod CodeWords
-pub mod Layers
 pub mod Paths
 pub mod Places
 pub mod Sheets

@@ -8,7 +8,7 @@ ghost use Rattle.paths.specs.Places.{place_of};
 ghost use Rattle.paths.specs.Sheets.{term_of, term_at, span_at};
 
 use crate::code::Code;
-use crate::path::{Head, Layer, Path, arriving, under};
+use crate::path::{Addition, Head, Path, arriving, under};
 use descent::span;
 use model::Model;
 use sheet::{Reader, Step};
@@ -79,9 +79,12 @@ fn descend(model: &Model, number: u32, id: usize) -> Option<Path>
                 descend(model, second, id - split)
             }
         }
-        Shape::Framed(body) => under(Layer::Frame(number), descend(model, body, id)),
-        Shape::When(condition, body) => under(Layer::When(condition), descend(model, body, id)),
-        Shape::Urgent(condition, body) => under(Layer::Urgent(condition), descend(model, body, id)),
+        Shape::Framed(body) => under(Addition::Frame(number), descend(model, body, id)),
+        Shape::When(condition, body) => under(Addition::When(condition), descend(model, body, id)),
+        Shape::Urgent(condition, body) => under(
+            Addition::Urgent(condition),
+            descend(model, body, id),
+        ),
         Shape::Inner(body) => descend(model, body, id),
     }
 }

@@ -3,7 +3,7 @@ ghost use Rattle.std.specs.Prelude.{◌≡◌};
 ghost use Rattle.std.specs.Option.{option_map};
 ghost use Rattle.rules.specs.Descents.{arriving};
 ghost use Rattle.paths.specs.Paths.{head_of, found};
-ghost use Rattle.paths.specs.Layers.{Roomy, below_layer};
+ghost use Rattle.paths.specs.Additions.{Roomy, with_addition};
 
 use crate::stack::Stack;
 
@@ -43,7 +43,7 @@ pub(crate) fn arriving(leaf: Head, id: usize) -> Option<Path>
 
 /// What a record adds to the paths of its body.
 #[derive(Clone, Copy)]
-pub(crate) enum Layer {
+pub(crate) enum Addition {
     Frame(u32),
     /// The condition of a when.
     When(u32),
@@ -53,15 +53,15 @@ pub(crate) enum Layer {
 
 /// The path that was found, if any, with what a record above it adds.
 // Kept: no `?` on a path, which is large: it would be copied once more for each.
-pub(crate) fn under(layer: Layer, mut lower: Option<Path>) -> Option<Path>
+pub(crate) fn under(addition: Addition, mut lower: Option<Path>) -> Option<Path>
     requires { Roomy lower }
-    ensures { found result ≡ option_map (below_layer layer) (found lower) }
+    ensures { found result ≡ option_map (with_addition addition) (found lower) }
 {
     if let Some(path) = &mut lower {
-        match layer {
-            Layer::Frame(number) => path.frames.push(number),
-            Layer::When(condition) => path.whens.push(condition),
-            Layer::Urgent(condition) => path.urgents.push(condition),
+        match addition {
+            Addition::Frame(number) => path.frames.push(number),
+            Addition::When(condition) => path.whens.push(condition),
+            Addition::Urgent(condition) => path.urgents.push(condition),
         }
     }
     lower

@@ -1,14 +1,14 @@
 -- What a record adds to the path of a slot below it.
 use Rattle.std.specs.Prelude.{◌<◌, [], ◌∷◌, Some, None, Option}
 use Rattle.rules.specs.Descents.{Path as Way, within, under_when, under_urgent}
-use Rattle.paths.specs.declared.path.Layer.{Layer}
-use Rattle.paths.specs.declared.path.Layer.TheVariants.{Frame, When, Urgent}
+use Rattle.paths.specs.declared.path.Addition.{Addition}
+use Rattle.paths.specs.declared.path.Addition.TheVariants.{Frame, When, Urgent}
 use Rattle.paths.specs.declared.path.Path.{Path}
 
-abbrev pub below_layer : Layer → Way → Way
-below_layer (Frame r) p = within (r ∷ []) p
-below_layer (When c) p = under_when c p
-below_layer (Urgent c) p = under_urgent c p
+abbrev pub with_addition : Addition → Way → Way
+with_addition (Frame r) p = within (r ∷ []) p
+with_addition (When c) p = under_when c p
+with_addition (Urgent c) p = under_urgent c p
 
 -- room for one word more in each stack
 abbrev pub Roomy : Option Path → Type 0
