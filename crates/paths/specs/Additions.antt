@@ -10,7 +10,7 @@ with_addition (Frame r) p = within (r ∷ []) p
 with_addition (When c) p = under_when c p
 with_addition (Urgent c) p = under_urgent c p
 
--- room for one word more in each stack
+-- a path that was found has room for one word more in each stack
 abbrev pub Roomy : Option Path → Type 0
 Roomy None = Unit {0}
 Roomy (Some p) = (p.frames.count < 128) × (p.whens.count < 128) × (p.urgents.count < 128)

@@ -128,6 +128,7 @@ pub fn path_to(model: &Model, code: &Code, id: usize) -> Option<Path>
     let [first, frames @ ..] = code.words() else {
         return None;
     };
+    // Kept: no `?` on a path, as in `under`.
     let mut path = from_head(model, *first, id);
     if let Some(inner) = &mut path {
         under_frames(inner, frames);

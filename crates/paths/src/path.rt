@@ -44,6 +44,7 @@ pub(crate) fn arriving(leaf: Head, id: usize) -> Option<Path>
 /// What a record adds to the paths of its body.
 #[derive(Clone, Copy)]
 pub(crate) enum Addition {
+    /// The record itself, as a frame.
     Frame(u32),
     /// The condition of a when.
     When(u32),
